@@ -1,0 +1,8 @@
+-- The whole table is computed at once.
+use mathlib.Core.Path.{refl}
+use Rattle.fcs.specs.Fcs.{checkOctet, octetStep, bitStep}
+use Rattle.figures.specs.Figures.{FiguresHold}
+
+pub figures-hold : FiguresHold
+unfolding checkOctet octetStep bitStep
+figures-hold = refl

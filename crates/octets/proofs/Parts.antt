@@ -1,0 +1,115 @@
+-- Laws of parts and writes: a write changes its place and nothing else, and writes that follow one another are one.
+use Prim.Native.Nat.{ℕ, zero, suc, _+_, _-_, _<_, _≤_}
+use native.Mathlib.Nat.{add-zero, zero-add, suc-sub-suc, zero-sub, sub-zero}
+use native.Mathlib.Omega.{arith}
+use mathlib.Core.Bool.{Bool, true, false, _&&_, cond}
+use mathlib.Core.List.{List, [], _∷_, _++_, append-assoc, append-nil}
+use mathlib.Core.Path.{_≡_, refl, sym, ap, _∙_}
+use lib.Dec.{leb}
+use lib.ListN.{length, take, drop, set, getD, length-append, length-take, length-drop, take-append-drop}
+use lib.Seq.{take-append-le, take-take, take-at, drop-at, drop-drop, take-add, length-take-le, set-at, drop-cons, append-snoc, take-nil, take-length}
+use borrow.Author.Tests.{le-leb}
+use Rattle.octets.specs.Parts.{part, write, within, copyFits, copied}
+use Rattle.octets.proofs.Tests.{holds-both}
+
+pub part-length : (l : List ℕ) (from count : ℕ) → from + count ≤ length l → length (part l from count) ≡ count
+part-length l from count h = length-take-le count (drop from l) (omega (arith, length-drop from l))
+
+-- a front, with the part that follows it
+pub take-part : (l : List ℕ) (from count : ℕ) → take (from + count) l ≡ take from l ++ part l from count
+take-part l from count = take-add from count l
+
+drop-take : (f t : ℕ) (l : List ℕ) → drop f (take t l) ≡ take (t - f) (drop f l)
+drop-take zero t l = rw sub-zero
+drop-take (suc f) zero l = rw zero-sub
+drop-take (suc f) (suc t) [] = sym (take-nil (suc t - suc f))
+drop-take (suc f) (suc t) (x ∷ l) = rw suc-sub-suc (drop-take f t l)
+
+-- a part, as the end of a front
+pub part-front : (l : List ℕ) (from count : ℕ) → part l from count ≡ drop from (take (from + count) l)
+part-front l from count = let e : from + count - from ≡ count = omega arith in sym (drop-take from (from + count) l ∙ rw e)
+
+module _ (l : List ℕ) (at : ℕ) (d : List ℕ) (fits : at + length d ≤ length l) where
+  head-length : length (take at l ++ d) ≡ at + length d
+  head-length = length-append (take at l) d ∙ ap (λ (n : ℕ). n + length d) (length-take-le at l (omega arith))
+
+  pub write-length : length (write l at d) ≡ length l
+  unfolding write
+  write-length = omega (arith, length-append (take at l ++ d) (drop (at + length d) l), head-length, length-drop (at + length d) l)
+
+  pub write-take : (t : ℕ) → t ≤ at → take t (write l at d) ≡ take t l
+  unfolding write
+  write-take t h =
+      take-append-le t (take at l ++ d) _ (omega (arith, head-length))
+      ∙ take-append-le t (take at l) d (omega (arith, length-take-le at l (omega arith))) ∙ take-take t at l h
+
+  pub write-drop : (f : ℕ) → at + length d ≤ f → drop f (write l at d) ≡ drop f l
+  unfolding write
+  write-drop f h =
+      let e : (at + length d) + (f - (at + length d)) ≡ f = omega arith in
+      ap (λ (n : ℕ). drop n (write l at d)) (sym e)
+      ∙ sym (drop-drop (f - (at + length d)) (at + length d) (write l at d))
+      ∙ ap (drop (f - (at + length d))) (drop-at (take at l ++ d) (drop (at + length d) l) (at + length d) head-length)
+      ∙ drop-drop (f - (at + length d)) (at + length d) l ∙ ap (λ (n : ℕ). drop n l) e
+
+  -- what stands up to the end of it
+  pub write-front : take (at + length d) (write l at d) ≡ take at l ++ d
+  unfolding write
+  write-front = take-at (take at l ++ d) (drop (at + length d) l) (at + length d) head-length
+
+  -- the part that was written
+  pub part-same : part (write l at d) at (length d) ≡ d
+  unfolding write
+  part-same =
+      ap (take (length d))
+      (ap (drop at) (append-assoc (take at l) d _) ∙ drop-at (take at l) (d ++ drop (at + length d) l) at (length-take-le at l (omega arith)))
+      ∙ take-at d _ (length d) refl
+
+  -- a part before it
+  pub part-before : (from count : ℕ) → from + count ≤ at → part (write l at d) from count ≡ part l from count
+  part-before from count h =
+      part-front (write l at d) from count ∙ ap (drop from) (write-take (from + count) h) ∙ sym (part-front l from count)
+
+  -- a part after it
+  pub part-after : (from count : ℕ) → at + length d ≤ from → part (write l at d) from count ≡ part l from count
+  part-after from count h = ap (take count) (write-drop from h)
+
+-- nothing written
+pub write-nothing : (l : List ℕ) (at : ℕ) → write l at [] ≡ l
+unfolding write
+write-nothing l at = rw (append-nil (take at l), add-zero) (take-append-drop at l)
+
+-- at the start
+pub write-start : (l d : List ℕ) → write l 0 d ≡ d ++ drop (length d) l
+unfolding write
+write-start l d = rw zero-add
+
+-- a write after a write is one write of both
+pub write-next : (l : List ℕ) (at : ℕ) (d e : List ℕ) → at + length d ≤ length l → write (write l at d) (at + length d) e ≡ write l at (d ++ e)
+unfolding write
+write-next l at d e h =
+    let n : at + length (d ++ e) ≡ at + length d + length e = omega (arith, length-append d e) in
+    rw (write-front l at d h, write-drop l at d h (at + length d + length e) (omega arith), n) (rw (append-assoc (take at l) d e))
+
+-- one octet more, after a write
+pub write-octet : (l : List ℕ) (at : ℕ) (d : List ℕ) (x : ℕ) → at + length d < length l → set (write l at d) (at + length d) x ≡ write l at (d ++ (x ∷ []))
+unfolding write
+write-octet l at d x h =
+    let n : at + length (d ++ (x ∷ [])) ≡ suc (at + length d) = omega (arith, length-append d (x ∷ [])) in
+    rw (drop-cons l (at + length d) 0 h, n)
+    (set-at (take at l ++ d) _ _ x (at + length d) (head-length l at d (omega arith))
+    ∙ sym (append-snoc (take at l ++ d) x (drop (suc (at + length d)) l)) ∙ rw (append-assoc (take at l) d (x ∷ [])))
+
+-- a copy that fits
+pub copied-part : (to : List ℕ) (at : ℕ) (source : List ℕ) (from count : ℕ) → at + count ≤ length to → from + count ≤ length source
+    → copied to at source from count ≡ write to at (part source from count)
+unfolding copied
+copied-part to at source from count h k =
+    rw (le-leb at (length to) (omega arith), le-leb count (length to - at) (omega arith), le-leb from (length source) (omega arith), le-leb count (length source - from) (omega arith))
+
+-- a list copied whole behind a write
+pub copied-next : (l : List ℕ) (at : ℕ) (d x : List ℕ) (next : ℕ) → next ≡ at + length d → next + length x ≤ length l
+    → copied (write l at d) next x 0 (length x) ≡ write l at (d ++ x)
+copied-next l at d x next e h =
+    copied-part (write l at d) next x 0 (length x) (omega (arith, write-length l at d (omega arith))) (omega arith)
+    ∙ rw (take-length x, e) (write-next l at d x (omega arith))

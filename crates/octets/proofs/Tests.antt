@@ -1,0 +1,19 @@
+-- The laws that turn what a branch showed into the value of the test that a definition names, and a split on a test.
+use mathlib.Core.Bool.{Bool, true, false, _&&_, and-eq-true-iff}
+use mathlib.Core.Path.{_≡_, refl}
+use borrow.Author.Tests.{le-leb, lt-leb, le-ltb, eq-eqb, ne-eqb}
+
+pub ruleset tests = (le-leb, lt-leb, le-ltb, eq-eqb, ne-eqb)
+
+-- a proof by cases on a test
+pub cases : {A : Type 0} (t : Bool) → (t ≡ true → A) → (t ≡ false → A) → A
+cases true h k = h refl
+cases false h k = k refl
+
+-- both parts of a test that holds
+pub both-hold : {a b : Bool} → (a && b) ≡ true → (a ≡ true) × (b ≡ true)
+both-hold {a} {b} e = and-eq-true-iff a b .0 e
+
+-- a test of two parts that hold
+pub holds-both : {a b : Bool} → a ≡ true → b ≡ true → (a && b) ≡ true
+holds-both {a} {b} p q = rw (p, q)

@@ -1,0 +1,73 @@
+// Lists of octets: big-endian numbers, and copies of parts.
+ghost use mathlib.Core.Path.{_≡_};
+ghost use Prim.Native.Nat.{_+_, _<_, _≤_};
+ghost use lib.ListN.{getD, length};
+ghost use Rattle.octets.specs.Numbers.{big16, big32};
+ghost use Rattle.octets.specs.Parts.{part, write, copyFits, copied};
+
+// The octet at a place; 0 past the end.
+pub fn octet_at(octets: &[u8], at: usize) -> u8
+    ensures { λ r. ⌜ r ≡ getD (now (octets .entry)) at 0 ⌝ }
+{
+    if at < octets.len() { octets[at] } else { 0 }
+}
+
+fn wide16(octet: u8) -> u16
+    ensures { λ r. ⌜ (r ≡ octet) × (r < 256) ⌝ }
+{
+    octet as u16
+}
+
+// The number in the two octets from a place on; octets past the end count as 0.
+pub fn read16(octets: &[u8], at: usize) -> u16
+    ensures { λ r. ⌜ r ≡ big16 (now (octets .entry)) at ⌝ }
+{
+    if at < octets.len() {
+        wide16(octets[at]) * 256 + wide16(octet_at(octets, at + 1))
+    } else {
+        0
+    }
+}
+
+// The number in the four octets from a place on; octets past the end count as 0.
+pub fn read32(octets: &[u8], at: usize) -> u32
+    ensures { λ r. ⌜ r ≡ big32 (now (octets .entry)) at ⌝ }
+{
+    if at < octets.len() {
+        (read16(octets, at) as u32) * 65536 + (read16(octets, at + 2) as u32)
+    } else {
+        0
+    }
+}
+
+fn copy_all(to: &mut [u8], at: usize, source: &[u8])
+    requires { ⌜ at + length (now source) ≤ length (now to) ⌝ }
+    ensures { λ r. ⌜ now (to .exit) ≡ write (now (to .entry)) at (now (source .entry)) ⌝ }
+{
+    let mut j = 0;
+    while j < source.len() {
+        to[at + j] = source[j];
+        j += 1;
+    }
+}
+
+// Copies count octets of the source from a place on to another place; false, and nothing copied, where that does not fit.
+pub fn copy(to: &mut [u8], at: usize, source: &[u8], from: usize, count: usize) -> bool
+    ensures { λ r. ⌜ (r ≡ copyFits (now (to .entry)) at (now (source .entry)) from count)
+        × (now (to .exit) ≡ copied (now (to .entry)) at (now (source .entry)) from count) ⌝ }
+{
+    if to.len() < at {
+        return false;
+    }
+    if to.len() - at < count {
+        return false;
+    }
+    if source.len() < from {
+        return false;
+    }
+    if source.len() - from < count {
+        return false;
+    }
+    copy_all(to, at, &source[from..from + count]);
+    true
+}

@@ -1,0 +1,4 @@
+pub mod Numbers
+pub mod Segments
+pub mod Frame
+pub mod Promises
