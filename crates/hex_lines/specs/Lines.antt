@@ -1,0 +1,59 @@
+-- One line of "Lines in, lines out": a message in hexadecimal in, its cut out, one frame a line.
+use Prim.Native.Nat.{ℕ, suc}
+use mathlib.Core.Bool.{Bool, _&&_, cond}
+use mathlib.Core.List.{List, [], _∷_, _++_, map}
+use lib.Dec.{leb}
+use lib.ListN.{length}
+use Rattle.octets.specs.Parts.{write}
+use Rattle.octets.specs.Cut.{joined}
+use Rattle.octets.specs.Told.{Told, refused, answered}
+use Rattle.hex.specs.Hex.{isHexadecimal, octetsOf, textOf}
+use Rattle.pb_adv.specs.Numbers.{numberAfter}
+use Rattle.pb_adv_writing.specs.Writing.{messageFrames}
+use Rattle.pb_adv.specs.declared.TransactionNumber.{TransactionNumber}
+use Rattle.hex_lines.specs.declared.LineWritten.{LineWritten}
+use Rattle.hex_lines.specs.declared.LineWritten.the-variants.{Text, OutputTooShort}
+
+-- "an even number of digits from 2 to 2,938", of either case
+abbrev pub isMessage : List ℕ → Bool
+isMessage line = isHexadecimal line && (leb 2 (length line) && leb (length line) 2938)
+
+-- a frame as a line: its digits in capitals, and a newline
+abbrev pub frameLine : List ℕ → List ℕ
+frameLine f = textOf f ++ (10 ∷ [])
+
+-- the cut of a message as lines, with Link ID 00000001
+unfoldable pub messageText : TransactionNumber → List ℕ → List ℕ
+messageText t m = joined (map frameLine (messageFrames 1 t m))
+
+-- `!11`, and a newline
+abbrev pub refusedText : List ℕ
+refusedText = 33 ∷ 49 ∷ 49 ∷ 10 ∷ []
+
+-- what a line writes under the next number t
+unfoldable pub lineText : TransactionNumber → List ℕ → List ℕ
+lineText t line = cond (isMessage line) (messageText t (octetsOf line)) refusedText
+
+-- the next number after it: a line that is refused spends none
+unfoldable pub lineNext : TransactionNumber → List ℕ → TransactionNumber
+lineNext t line = cond (isMessage line) (numberAfter t) t
+
+-- document 01's number and values of an answer
+abbrev pub told : LineWritten → Told
+told (Text n t) = answered "text" (n ∷ t .0 ∷ [])
+told OutputTooShort = refused 11
+
+-- the answer to a line by its text and the next number: the text's length and that number, or refusal 11 where the output is shorter
+unfoldable pub textWritten : List ℕ → TransactionNumber → List ℕ → LineWritten
+textWritten text next output = cond (leb (length text) (length output)) (Text (length text) next) OutputTooShort
+
+-- the output after it: the text at its start and nothing after it changed, or as it was
+unfoldable pub textOutput : List ℕ → List ℕ → List ℕ
+textOutput text output = cond (leb (length text) (length output)) (write output 0 text) output
+
+-- ONE LINE: its answer and the output after it
+abbrev pub lineWritten : TransactionNumber → List ℕ → List ℕ → LineWritten
+lineWritten t line output = textWritten (lineText t line) (lineNext t line) output
+
+abbrev pub lineOutput : TransactionNumber → List ℕ → List ℕ → List ℕ
+lineOutput t line output = textOutput (lineText t line) output
