@@ -11,7 +11,7 @@ use lib.Seq.{take-all, length-take-le, getD-at}
 use borrow.Author.Tests.{leb-true, leb-false}
 use Rattle.octets.specs.Parts.{part, write}
 use Rattle.octets.specs.Cut.{placeOf, lastOf, sizeOf, piece, upTo, cut, joined, placed}
-use Rattle.octets.proofs.Parts.{part-length, take-part, part-same, part-before, part-after, write-length, write-next, write-start, write-nothing}
+use Rattle.octets.proofs.Parts.{part-length, part-take, take-part, part-same, part-before, part-after, write-length, write-next, write-start, write-nothing}
 use Rattle.octets.proofs.Tests.{cases}
 
 -- ---- the numbers from 0 up to n
@@ -101,6 +101,14 @@ module _ (place : ℕ → ℕ) (zero-at : place 0 ≡ 0) (up : (k : ℕ) → pla
   piece-length n l k h =
       cases (leb (place k) n)
       (λ e. part-length l (place k) (sizeOf place n k) (omega (arith, leb-true (place k) n e)))
+      (λ e. let z : sizeOf place n k ≡ 0 = omega (arith, leb-false (place k) n e) in rw z)
+
+  -- the pieces of a front are those of the list
+  pub piece-take : (n : ℕ) (l : List ℕ) (k : ℕ) → piece place n (take n l) k ≡ piece place n l k
+  unfolding piece
+  piece-take n l k =
+      cases (leb (place k) n)
+      (λ e. part-take n l (place k) (sizeOf place n k) (omega (arith, leb-true (place k) n e)))
       (λ e. let z : sizeOf place n k ≡ 0 = omega (arith, leb-false (place k) n e) in rw z)
 
   -- a write of piece k: it is there, and the others are as they were

@@ -8,8 +8,8 @@ use mathlib.Core.Path.{_≡_, refl, sym, ap, _∙_}
 use lib.Dec.{leb}
 use lib.ListN.{length, take, drop, set, getD, length-append, length-take, length-drop, take-append-drop}
 use lib.Seq.{take-append-le, take-take, take-at, drop-at, drop-drop, take-add, length-take-le, set-at, drop-cons, append-snoc, take-nil, take-length}
-use borrow.Author.Tests.{le-leb}
-use Rattle.octets.specs.Parts.{part, write, within, copyFits, copied}
+use borrow.Author.Tests.{le-leb, eq-eqb}
+use Rattle.octets.specs.Parts.{part, write, within, copyFits, copied, same}
 use Rattle.octets.proofs.Tests.{holds-both}
 
 pub part-length : (l : List ℕ) (from count : ℕ) → from + count ≤ length l → length (part l from count) ≡ count
@@ -28,6 +28,11 @@ drop-take (suc f) (suc t) (x ∷ l) = rw suc-sub-suc (drop-take f t l)
 -- a part, as the end of a front
 pub part-front : (l : List ℕ) (from count : ℕ) → part l from count ≡ drop from (take (from + count) l)
 part-front l from count = let e : from + count - from ≡ count = omega arith in sym (drop-take from (from + count) l ∙ rw e)
+
+-- a part of a front
+pub part-take : (n : ℕ) (l : List ℕ) (from count : ℕ) → from + count ≤ n → part (take n l) from count ≡ part l from count
+part-take n l from count h =
+    part-front (take n l) from count ∙ ap (drop from) (take-take (from + count) n l h) ∙ sym (part-front l from count)
 
 module _ (l : List ℕ) (at : ℕ) (d : List ℕ) (fits : at + length d ≤ length l) where
   head-length : length (take at l ++ d) ≡ at + length d
@@ -113,3 +118,7 @@ pub copied-next : (l : List ℕ) (at : ℕ) (d x : List ℕ) (next : ℕ) → ne
 copied-next l at d x next e h =
     copied-part (write l at d) next x 0 (length x) (omega (arith, write-length l at d (omega arith))) (omega arith)
     ∙ rw (take-length x, e) (write-next l at d x (omega arith))
+
+pub same-refl : (l : List ℕ) → same l l ≡ true
+same-refl [] = refl
+same-refl (x ∷ l) = rw (eq-eqb x x refl) (same-refl l)

@@ -10,6 +10,11 @@ pub cases : {A : Type 0} (t : Bool) → (t ≡ true → A) → (t ≡ false → 
 cases true h k = h refl
 cases false h k = k refl
 
+-- the same of a statement about the test
+pub both : (P : Bool → Type 0) (t : Bool) → (t ≡ true → P true) → (t ≡ false → P false) → P t
+both P true h k = h refl
+both P false h k = k refl
+
 -- both parts of a test that holds
 pub both-hold : {a b : Bool} → (a && b) ≡ true → (a ≡ true) × (b ≡ true)
 both-hold {a} {b} e = and-eq-true-iff a b .0 e

@@ -1,0 +1,12 @@
+pub mod Marks
+pub mod Interleaving
+pub mod Come
+pub mod Deliver
+pub mod View
+pub mod Sound
+pub mod Lens
+pub mod Only
+pub mod Keep
+pub mod Demand3
+pub mod Back
+pub mod Promises

@@ -1,0 +1,9 @@
+pub mod Marks
+pub mod Links
+pub mod Good
+pub mod Segments
+pub mod Station
+pub mod Promises
+pub mod Interleaving
+pub mod Demand3
+pub mod Demand2

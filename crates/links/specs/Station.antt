@@ -1,0 +1,156 @@
+-- The station: link records, as many as there are sockets, and one area with 1,469 octets for each; the receiving call and the local calls.
+use Prim.Native.Nat.{ℕ, zero, suc, _*_, _-_}
+use mathlib.Core.Bool.{Bool, true, false, _&&_, cond}
+use mathlib.Core.List.{List}
+use lib.Dec.{leb, eqb}
+use lib.ListN.{length, getD, set}
+use Rattle.octets.specs.Parts.{part, write}
+use Rattle.pb_adv.specs.Numbers.{numberAfter, isSocket}
+use Rattle.pb_adv.specs.Segments.{isLength, segN}
+use Rattle.pb_adv.specs.Frame.{parsed, carried}
+use Rattle.pb_adv.specs.declared.TransactionNumber.{TransactionNumber}
+use Rattle.pb_adv.specs.declared.Socket.{Socket}
+use Rattle.pb_adv.specs.declared.FrameRefusal.{FrameRefusal}
+use Rattle.pb_adv.specs.declared.FrameRefusal.the-variants as F
+use Rattle.pb_adv.specs.declared.Parsed.{Parsed}
+use Rattle.pb_adv.specs.declared.Parsed.the-variants as P
+use Rattle.links.specs.Links.{peer, sends, blank, blankWith, withState, withSending, inUse, find}
+use Rattle.links.specs.Good.{good}
+use Rattle.links.specs.Segments.{OneLink, segmentStep}
+use Rattle.links.specs.declared.Side.{Side}
+use Rattle.links.specs.declared.Side.the-variants.{Provisioner, Device}
+use Rattle.links.specs.declared.LinkState.{LinkState}
+use Rattle.links.specs.declared.LinkState.the-variants as S
+use Rattle.links.specs.declared.Link.{Link}
+use Rattle.links.specs.declared.Found.{Found}
+use Rattle.links.specs.declared.Found.the-variants.{At, Nowhere}
+use Rattle.links.specs.declared.Refusal.{Refusal}
+use Rattle.links.specs.declared.Refusal.the-variants as R
+use Rattle.links.specs.declared.Answer.{Answer}
+use Rattle.links.specs.declared.Answer.the-variants as A
+
+pub record Station : Type 0 where
+  pub links : List Link
+  pub area : List ℕ
+
+-- ---- one socket's record and part, counted from 0
+
+-- what is read past the last record
+abbrev pub noLink : Link
+noLink = blank Provisioner
+
+unfoldable pub getLink : ℕ → Station → OneLink
+getLink s σ = record { link = getD (σ .links) s noLink; part = part (σ .area) (1469 * s) 1469 }
+
+unfoldable pub putLink : ℕ → OneLink → Station → Station
+putLink s x σ = record { links = set (σ .links) s (x .link); area = write (σ .area) (1469 * s) (x .part) }
+
+-- ---- one link and a frame for it
+
+abbrev pub setLink : OneLink → Link → OneLink
+setLink x l = record { link = l; part = x .part }
+
+-- 12, or "acknowledged": the outstanding mark is cleared and the number steps
+unfoldable pub acknowledgementStep : OneLink → TransactionNumber → Answer × OneLink
+acknowledgementStep x t =
+    cond (x .link .outstanding && eqb (x .link .next .0) (t .0))
+    (A.Acknowledged, setLink x (withSending (x .link) (numberAfter t) false))
+    (A.Refused R.NotOutstanding, x)
+
+-- an Ack on an open link: the device's end awaits none
+abbrev pub ackStep : Side → OneLink → Answer × OneLink
+ackStep Provisioner x = (A.Already, x)
+ackStep Device x = (A.Refused R.WrongDirection, x)
+
+-- document 01's refusal of octets that are no frame
+abbrev pub frameRefusal : FrameRefusal → Refusal
+frameRefusal F.Malformed = R.Malformed
+frameRefusal F.UnknownOpcode = R.UnknownOpcode
+
+-- what a frame f, parsed as p, does at a link of its Link ID, by the link's state: 4, 5, then what the frame is for
+unfoldable pub frameStep : Side → OneLink → LinkState → List ℕ → Parsed → Answer × OneLink
+frameStep side x S.Free f p = (A.Refused R.UnknownLink, x)
+frameStep side x S.Opening f (P.Segment s) = (A.Refused R.NotOpen, x)
+frameStep side x S.Opening f (P.Acknowledgement id t) = (A.Refused R.NotOpen, x)
+frameStep side x S.Opening f (P.Open id uuid) = (A.Refused R.NotOpen, x)
+frameStep side x S.Opening f (P.Ack id) = (A.Opened, setLink x (withState (x .link) S.Open))
+frameStep side x S.Opening f (P.Close id reason) = (A.Closed reason, setLink x (blank side))
+frameStep side x S.Opening f (P.Refused r) = (A.Refused (frameRefusal r), x)
+frameStep side x S.Open f (P.Segment s) =
+    cond (sends (peer side) (s .number)) (segmentStep x (s .number) (s .header) (part f (s .from) (s .count))) (A.Refused R.WrongDirection, x)
+frameStep side x S.Open f (P.Acknowledgement id t) = cond (sends side t) (acknowledgementStep x t) (A.Refused R.WrongDirection, x)
+frameStep side x S.Open f (P.Open id uuid) = (A.Refused R.WrongDirection, x)
+frameStep side x S.Open f (P.Ack id) = ackStep side x
+frameStep side x S.Open f (P.Close id reason) = (A.Closed reason, setLink x (blank side))
+frameStep side x S.Open f (P.Refused r) = (A.Refused (frameRefusal r), x)
+
+-- ---- the receiving call
+
+-- 3, or the link's step
+abbrev pub atSocket : Side → Station → Found → List ℕ → Parsed → Answer × Station
+atSocket side σ Nowhere f p = (A.Refused R.UnknownLink, σ)
+atSocket side σ (At s) f p =
+    let r : Answer × OneLink = frameStep side (getLink s σ) (getLink s σ .link .state) f p in
+    (r .0, putLink s (r .1) σ)
+
+-- 1 and 2, or the record of the frame's Link ID
+abbrev pub onFrame : Side → Station → List ℕ → Parsed → Answer × Station
+onFrame side σ f (P.Segment s) = atSocket side σ (find (σ .links) (s .id)) f (P.Segment s)
+onFrame side σ f (P.Acknowledgement id t) = atSocket side σ (find (σ .links) id) f (P.Acknowledgement id t)
+onFrame side σ f (P.Open id uuid) = atSocket side σ (find (σ .links) id) f (P.Open id uuid)
+onFrame side σ f (P.Ack id) = atSocket side σ (find (σ .links) id) f (P.Ack id)
+onFrame side σ f (P.Close id reason) = atSocket side σ (find (σ .links) id) f (P.Close id reason)
+onFrame side σ f (P.Refused r) = (A.Refused (frameRefusal r), σ)
+
+-- RECEIVING A FRAME: 11 an area of another length, 14 a bad state, then the frame
+unfoldable pub received : Side → Station → List ℕ → Answer × Station
+received side σ f =
+    cond (eqb (length (σ .area)) (1469 * length (σ .links)))
+    (cond (good side (σ .links)) (onFrame side σ f (parsed f)) (A.Refused R.BadState, σ))
+    (A.Refused R.WrongArgument, σ)
+
+-- ---- the local calls, over the records alone
+
+-- the record of a socket, and the records with it changed
+abbrev pub linkAt : List Link → Socket → Link
+linkAt ls s = getD ls (s .0 - 1) noLink
+
+abbrev pub withLink : List Link → Socket → Link → List Link
+withLink ls s l = set ls (s .0 - 1) l
+
+-- 11 a wrong argument, 14 a bad state, then the call's own step
+abbrev pub judged : Side → List Link → Bool → Answer × List Link → Answer × List Link
+judged side ls right step = cond right (cond (good side ls) step (A.Refused R.BadState, ls)) (A.Refused R.WrongArgument, ls)
+
+-- a Link ID that is in use
+abbrev pub isFound : Found → Bool
+isFound (At s) = true
+isFound Nowhere = false
+
+-- "Open: 11, then 9 socket in use, then 10 Link ID in use"
+unfoldable pub localOpen : Side → List Link → Socket → ℕ → Answer × List Link
+localOpen side ls s id =
+    judged side ls (isSocket s (length ls))
+    (cond (inUse (linkAt ls s .state)) (A.Refused R.SocketInUse, ls)
+    (cond (isFound (find ls id)) (A.Refused R.LinkIdInUse, ls)
+    (A.Done, withLink ls s (blankWith side S.Opening id))))
+
+abbrev pub isOpen : LinkState → Bool
+isOpen S.Free = false
+isOpen S.Opening = false
+isOpen S.Open = true
+
+-- "Send: 11, 4 (not open), 13 (one outstanding); it sets the mark and gives the number and SegN", for a message of n octets
+unfoldable pub localSend : Side → List Link → Socket → ℕ → Answer × List Link
+localSend side ls s n =
+    judged side ls (isSocket s (length ls) && isLength n)
+    (cond (isOpen (linkAt ls s .state))
+    (cond (linkAt ls s .outstanding) (A.Refused R.Outstanding, ls)
+    (A.Sending (linkAt ls s .next) (segN n), withLink ls s (withSending (linkAt ls s) (linkAt ls s .next) true)))
+    (A.Refused R.NotOpen, ls))
+
+-- "Close: 11, 4 (free); it frees the record"
+unfoldable pub localClose : Side → List Link → Socket → Answer × List Link
+localClose side ls s =
+    judged side ls (isSocket s (length ls))
+    (cond (inUse (linkAt ls s .state)) (A.Done, withLink ls s (blank side)) (A.Refused R.NotOpen, ls))
