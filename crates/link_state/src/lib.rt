@@ -14,7 +14,6 @@ use links::LinkState;
 use links::Side;
 use pb_adv::TransactionNumber;
 use pb_adv::last_segment;
-
 ghost use mathlib.Core.Path.{_≡_};
 ghost use mathlib.Core.Bool.{_&&_, not};
 ghost use lib.Dec.{eqb};

@@ -1,15 +1,16 @@
 -- Laws of parts and writes: a write changes its place and nothing else, and writes that follow one another are one.
 use Prim.Native.Nat.{ℕ, zero, suc, _+_, _-_, _<_, _≤_}
 use native.Mathlib.Nat.{add-zero, zero-add, suc-sub-suc, zero-sub, sub-zero}
+use native.Mathlib.Numerals.{add-one}
 use native.Mathlib.Omega.{arith}
 use mathlib.Core.Bool.{Bool, true, false, _&&_, cond}
 use mathlib.Core.List.{List, [], _∷_, _++_, append-assoc, append-nil}
 use mathlib.Core.Path.{_≡_, refl, sym, ap, _∙_}
-use lib.Dec.{leb}
-use lib.ListN.{length, take, drop, set, getD, length-append, length-take, length-drop, take-append-drop}
+use lib.Dec.{leb, eqb}
+use lib.ListN.{length, take, drop, set, getD, length-append, length-take, length-drop, take-append-drop, drop-of-length-le}
 use lib.Seq.{take-append-le, take-take, take-at, drop-at, drop-drop, take-add, length-take-le, set-at, drop-cons, append-snoc, take-nil, take-length}
 use borrow.Author.Tests.{le-leb, eq-eqb}
-use Rattle.octets.specs.Parts.{part, write, within, copyFits, copied, same}
+use Rattle.octets.specs.Parts.{part, write, within, copyFits, copied, same, samePart}
 use Rattle.octets.proofs.Tests.{holds-both}
 
 pub part-length : (l : List ℕ) (from count : ℕ) → from + count ≤ length l → length (part l from count) ≡ count
@@ -122,3 +123,18 @@ copied-next l at d x next e h =
 pub same-refl : (l : List ℕ) → same l l ≡ true
 same-refl [] = refl
 same-refl (x ∷ l) = rw (eq-eqb x x refl) (same-refl l)
+
+-- one octet taken off both
+pub same-step : (a b : List ℕ) (j : ℕ) → j < length a → j < length b
+    → same (drop j a) (drop j b) ≡ (eqb (getD a j 0) (getD b j 0) && same (drop (j + 1) a) (drop (j + 1) b))
+same-step a b j ha hb = rw (add-one, drop-cons a j 0, drop-cons b j 0)
+
+pub same-end : (a b : List ℕ) (j : ℕ) → length a ≤ j → length b ≤ j → same (drop j a) (drop j b) ≡ true
+same-end a b j ha hb = rw (drop-of-length-le a, drop-of-length-le b)
+
+-- parts that are within their lists are compared
+pub same-part-fits : (l : List ℕ) (at : ℕ) (m : List ℕ) (from count : ℕ) → at + count ≤ length l → from + count ≤ length m
+    → samePart l at m from count ≡ same (part l at count) (part m from count)
+unfolding samePart
+same-part-fits l at m from count h k =
+    rw (le-leb at (length l) (omega arith), le-leb count (length l - at) (omega arith), le-leb from (length m) (omega arith), le-leb count (length m - from) (omega arith))

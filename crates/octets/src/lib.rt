@@ -3,7 +3,7 @@ ghost use mathlib.Core.Path.{_≡_};
 ghost use Prim.Native.Nat.{_+_, _<_, _≤_};
 ghost use lib.ListN.{getD, length};
 ghost use Rattle.octets.specs.Numbers.{big16, big32};
-ghost use Rattle.octets.specs.Parts.{part, write, copyFits, copied};
+ghost use Rattle.octets.specs.Parts.{part, write, copyFits, copied, same, samePart};
 
 // The octet at a place; 0 past the end.
 pub fn octet_at(octets: &[u8], at: usize) -> u8
@@ -70,4 +70,37 @@ pub fn copy(to: &mut [u8], at: usize, source: &[u8], from: usize, count: usize) 
     }
     copy_all(to, at, &source[from..from + count]);
     true
+}
+
+fn same_all(a: &[u8], b: &[u8]) -> bool
+    requires { ⌜ length (now a) ≡ length (now b) ⌝ }
+    ensures { λ r. ⌜ r ≡ same (now (a .entry)) (now (b .entry)) ⌝ }
+{
+    let mut j = 0;
+    while j < a.len() {
+        if a[j] != b[j] {
+            return false;
+        }
+        j += 1;
+    }
+    true
+}
+
+// Whether count octets from a place on are those of another list from a place on; not where they are past an end.
+pub fn same_part(a: &[u8], at: usize, b: &[u8], from: usize, count: usize) -> bool
+    ensures { λ r. ⌜ r ≡ samePart (now (a .entry)) at (now (b .entry)) from count ⌝ }
+{
+    if a.len() < at {
+        return false;
+    }
+    if a.len() - at < count {
+        return false;
+    }
+    if b.len() < from {
+        return false;
+    }
+    if b.len() - from < count {
+        return false;
+    }
+    same_all(&a[at..at + count], &b[from..from + count])
 }

@@ -1,12 +1,12 @@
 -- The n + 1 low bits are ones (`all-marked-ones`); bit 64 and on are not set (`not-all-marked`).
 use Prim.Native.Nat.{_+_, _%_, _^_}
+use borrow.Author.Needs.{needs}
+use lib.Bits.{and-mask}
+use lib.Pow.{pow-pos}
+use mathlib.Core.Path.{_≡_, sym}
 use native.Mathlib.Nat.{mod-eq-of-lt}
 use native.Mathlib.Numerals.{add-one}
 use native.Mathlib.Omega.{arith}
-use mathlib.Core.Path.{_≡_, sym}
-use lib.Bits.{and-mask}
-use lib.Pow.{pow-pos}
-use borrow.Author.Needs.{needs}
 use Rattle.link_fields.proofs.Bits.{one-shifted, all-marked-ones, not-all-marked}
 use Rattle.link_fields.proofs.all_marked.Statement.{statement}
 use Rattle.link_fields.proofs.all_marked.Tie as tie

@@ -1,9 +1,9 @@
 -- The shift by definition; bit 64 and on are not set (`past-marks`).
-use native.Mathlib.Omega.{arith}
-use mathlib.Core.Path.{sym}
 use borrow.Author.Needs.{needs}
-use Rattle.links.specs.Marks.{isMarked}
+use mathlib.Core.Path.{sym}
+use native.Mathlib.Omega.{arith}
 use Rattle.link_fields.proofs.Bits.{past-marks}
+use Rattle.links.specs.Marks.{isMarked}
 use Rattle.link_fields.proofs.is_marked.Statement.{statement}
 use Rattle.link_fields.proofs.is_marked.Tie as tie
 

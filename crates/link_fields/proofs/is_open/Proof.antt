@@ -1,14 +1,14 @@
 -- By the state; the arm of two states says that the tag is one of theirs.
+use borrow.Author.Needs.{needs}
+use denote.Enum.Declared.{tagOf}
 use mathlib.Core.Bool.{false}
 use mathlib.Core.List.{[], _∷_}
 use mathlib.Core.Path.{_≡_, refl}
-use borrow.Author.Needs.{needs}
-use denote.Enum.Declared.{tagOf}
 use types.Run.{OneOf, miss}
 use Rattle.links.proofs.LinkState.{the-type}
-use Rattle.links.specs.declared.LinkState.{LinkState}
-use Rattle.links.specs.declared.LinkState.the-variants.{Free, Opening, Open}
 use Rattle.links.specs.Station.{isOpen}
+use Rattle.links.specs.declared.LinkState.the-variants.{Free, Opening, Open}
+use Rattle.links.specs.declared.LinkState.{LinkState}
 use Rattle.link_fields.proofs.is_open.Statement.{statement}
 use Rattle.link_fields.proofs.is_open.Tie as tie
 

@@ -1,10 +1,10 @@
 -- The shift by definition; nothing is left of a shift by 64 or more (`shifted-out`).
 use Prim.Native.Nat.{suc}
+use borrow.Author.Needs.{needs}
 use native.Mathlib.Numerals.{add-one}
 use native.Mathlib.Omega.{arith}
-use borrow.Author.Needs.{needs}
-use Rattle.links.specs.Marks.{noneAbove}
 use Rattle.link_fields.proofs.Bits.{shifted-out}
+use Rattle.links.specs.Marks.{noneAbove}
 use Rattle.link_fields.proofs.none_above.Statement.{statement}
 use Rattle.link_fields.proofs.none_above.Tie as tie
 

@@ -1,9 +1,9 @@
 -- A one shifted by at most 63 is a power of two (`one-shifted`).
-use native.Mathlib.Omega.{arith}
-use borrow.Author.Tests.{le-leb, lt-leb}
 use borrow.Author.Needs.{needs}
-use Rattle.links.specs.Marks.{withMark}
+use borrow.Author.Tests.{le-leb, lt-leb}
+use native.Mathlib.Omega.{arith}
 use Rattle.link_fields.proofs.Bits.{one-shifted}
+use Rattle.links.specs.Marks.{withMark}
 use Rattle.link_fields.proofs.with_mark.Statement.{statement}
 use Rattle.link_fields.proofs.with_mark.Tie as tie
 

@@ -1,12 +1,12 @@
 -- One turn of the loop takes one record off the list that is left: `goes-on`, `stops`, `nothing-left`.
 use Prim.Native.Nat.{_-_}
-use native.Mathlib.Omega.{arith}
-use mathlib.Core.Path.{_≡_, refl}
-use lib.ListN.{length, drop}
 use borrow.Author.Needs.{needs}
+use lib.ListN.{length, drop}
+use mathlib.Core.Path.{_≡_, refl}
+use native.Mathlib.Omega.{arith}
+use Rattle.link_state.proofs.Laws.{goes-on, stops, nothing-left}
 use Rattle.links.specs.Good.{apart, all, allApart}
 use Rattle.links.specs.Station.{noLink}
-use Rattle.link_state.proofs.Laws.{goes-on, stops, nothing-left}
 use Rattle.link_state.proofs.all_apart.Statement.{statement}
 use Rattle.link_state.proofs.all_apart.Tie as tie
 

@@ -1,11 +1,11 @@
 -- One turn of the loop takes one record off the list that is left: `finds`, `looks-on`, `nothing-left`.
 use Prim.Native.Nat.{_-_}
-use native.Mathlib.Omega.{arith}
-use mathlib.Core.Path.{_≡_}
-use lib.ListN.{length, drop}
 use borrow.Author.Needs.{needs}
-use Rattle.links.specs.Links.{findFrom}
+use lib.ListN.{length, drop}
+use mathlib.Core.Path.{_≡_}
+use native.Mathlib.Omega.{arith}
 use Rattle.link_state.proofs.Laws.{finds, looks-on, nothing-left}
+use Rattle.links.specs.Links.{findFrom}
 use Rattle.link_state.proofs.find_link.Statement.{statement}
 use Rattle.link_state.proofs.find_link.Tie as tie
 

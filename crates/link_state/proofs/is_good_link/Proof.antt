@@ -1,6 +1,6 @@
 -- By the state, and for a free record by its Link ID.
-use borrow.Author.Tests.{eq-eqb, ne-eqb}
 use borrow.Author.Needs.{needs}
+use borrow.Author.Tests.{eq-eqb, ne-eqb}
 use Rattle.link_state.proofs.is_good_link.Statement.{statement}
 use Rattle.link_state.proofs.is_good_link.Tie as tie
 

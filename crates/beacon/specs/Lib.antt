@@ -1,0 +1,3 @@
+pub mod Rules
+pub mod Beacons
+pub mod Promises
