@@ -1,9 +1,9 @@
 -- Past the end by one of the two tests, or a read within the message.
 use Prim.Native.Nat.{_+_}
-use native.Mathlib.Omega.{arith}
-use lib.ListN.{length}
-use borrow.Author.Tests.{le-leb, lt-leb}
 use borrow.Author.Needs.{needs}
+use borrow.Author.Tests.{le-leb, lt-leb}
+use lib.ListN.{length}
+use native.Mathlib.Omega.{arith}
 use Rattle.message_view.specs.Reading.{fieldAt}
 use Rattle.message_view.proofs.read_field.Statement.{statement}
 use Rattle.message_view.proofs.read_field.Tie as tie

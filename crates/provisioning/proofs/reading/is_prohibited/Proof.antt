@@ -1,15 +1,15 @@
 -- Message by message; the arm of all others says that the tag is one of theirs.
-use mathlib.Core.Bool.{false}
 use Prim.Native.Nat.{ℕ}
+use borrow.Author.Needs.{needs}
+use denote.Enum.Declared.{tagOf}
+use mathlib.Core.Bool.{false}
 use mathlib.Core.List.{List, [], _∷_}
 use mathlib.Core.Path.{_≡_, refl}
-use denote.Enum.Declared.{tagOf}
 use types.Run.{OneOf, miss}
-use borrow.Author.Needs.{needs}
 use Rattle.provisioning.proofs.Message.{the-type}
-use Rattle.provisioning.specs.declared.Message.{Message}
-use Rattle.provisioning.specs.declared.Message.the-variants as M
 use Rattle.provisioning.specs.Message.{isProhibited}
+use Rattle.provisioning.specs.declared.Message.the-variants as M
+use Rattle.provisioning.specs.declared.Message.{Message}
 use Rattle.provisioning.proofs.reading.is_prohibited.Statement.{statement}
 use Rattle.provisioning.proofs.reading.is_prohibited.Tie as tie
 

@@ -1,10 +1,10 @@
 -- Type by type; past the table there are no fields.
+use Prim.Native.Nat.{ℕ, _+_, _≤_, zero-le}
+use borrow.Author.Needs.{needs}
 use lib.ListN.{List·getD-eq-default}
 use mathlib.Core.List.{[]}
 use mathlib.Core.Path.{_≡_, sym}
-use Prim.Native.Nat.{ℕ, _+_, _≤_, zero-le}
 use native.Mathlib.Omega.{arith}
-use borrow.Author.Needs.{needs}
 use Rattle.provisioning.specs.Layout.{layouts, parameterLength}
 use Rattle.provisioning.proofs.reading.parameter_length.Statement.{statement}
 use Rattle.provisioning.proofs.reading.parameter_length.Tie as tie

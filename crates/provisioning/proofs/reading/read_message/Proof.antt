@@ -1,6 +1,6 @@
 -- Refusal by refusal, in the order of the definition.
-use borrow.Author.Tests.{eq-eqb, ne-eqb, lt-leb}
 use borrow.Author.Needs.{needs}
+use borrow.Author.Tests.{eq-eqb, ne-eqb, lt-leb}
 use Rattle.octets.proofs.Tests.{tests}
 use Rattle.provisioning.specs.Message.{messageRead}
 use Rattle.provisioning.proofs.reading.read_message.Statement.{statement}

@@ -1,0 +1,153 @@
+-- The steps of a receiving call, by the functions that take them: what each asks, and what it makes of a link.
+use Prim.Native.Nat.{ℕ, _+_, _≤_, _<_}
+use mathlib.Core.Bool.{Bool, true, cond}
+use mathlib.Core.List.{List, []}
+use mathlib.Core.Path.{_≡_}
+use lib.Dec.{eqb}
+use lib.ListN.{length, take, set}
+use Rattle.octets.specs.Parts.{part, samePart}
+use Rattle.fcs.specs.Fcs.{checkOctet}
+use Rattle.pb_adv.specs.Promises.{Fits}
+use Rattle.pb_adv.specs.Segments.{segN, segmentPlace, segmentLength}
+use Rattle.pb_adv.specs.declared.SegmentHeader.{SegmentHeader}
+use Rattle.pb_adv.specs.declared.Segment.{Segment}
+use Rattle.pb_adv.specs.declared.Socket.{Socket}
+use Rattle.pb_adv.specs.declared.Parsed.{Parsed}
+use Rattle.pb_adv.specs.declared.Parsed.the-variants as P
+use Rattle.links.specs.Marks.{allMarked}
+use Rattle.links.specs.Links.{withReceived}
+use Rattle.links.specs.Good.{good}
+use Rattle.links.specs.Segments.{OneLink, begun, entered, offered, onHalf, segmentStep}
+use Rattle.links.specs.Station.{Station, frameStep, atSocket, onFrame}
+use Rattle.links.specs.declared.Side.the-variants.{Provisioner}
+use Rattle.links.specs.declared.LinkState.{LinkState}
+use Rattle.links.specs.declared.LastDelivered.the-variants as L
+use Rattle.links.specs.declared.HalfMessage.{HalfMessage}
+use Rattle.links.specs.declared.HalfReceived.{HalfReceived}
+use Rattle.links.specs.declared.HalfReceived.the-variants as H
+use Rattle.links.specs.declared.Link.{Link}
+use Rattle.links.specs.declared.Found.{Found}
+use Rattle.links.specs.declared.Refusal.{Refusal}
+use Rattle.links.specs.declared.Refusal.the-variants as R
+use Rattle.links.specs.declared.Answer.{Answer}
+use Rattle.links.specs.declared.Answer.the-variants as A
+use Rattle.station.specs.Calls.{stationOf, oneLink, receivedOf}
+use Rattle.station.specs.declared.Received.{Received}
+use Rattle.station.specs.declared.Stepped.{Stepped}
+
+-- ---- what is handed back
+
+-- a refusal, and nothing changed
+abbrev pub callRefused : List Link → Refusal → Received
+callRefused links r = record { links = links; answer = A.Refused r }
+
+abbrev pub linkRefused : Link → Refusal → Stepped
+linkRefused link r = record { link = link; answer = A.Refused r }
+
+-- the records and the answer after a step of the link at place s
+abbrev pub stored : List Link → ℕ → Stepped → Received
+stored links s r = record { links = set links s (r .link); answer = r .answer }
+
+-- ---- a segment that goes to a message
+
+-- the link and the answer once the message's octets and marks are p and those of h
+unfoldable pub completed : Link → HalfMessage → List ℕ → Stepped
+completed link h p =
+    cond (allMarked (segN (h .length)) (h .marks))
+    (cond (eqb (checkOctet (take (h .length) p)) (h .check))
+    (record { link = withReceived link (L.Number (h .number)) H.Nothing; answer = A.Delivered (h .length) (h .number) })
+    (record { link = withReceived link (link .last) H.Nothing; answer = A.Refused R.WrongCheck }))
+    (record { link = withReceived link (link .last) (H.Message h); answer = A.Kept })
+
+-- the answer to a segment k that is in already
+unfoldable pub compared : ℕ → List ℕ → List ℕ → ℕ → ℕ → Answer
+compared k p f from count = cond (samePart p (segmentPlace k) f from count) A.Repeat (A.Refused R.Mismatch)
+
+-- the segment's octets stand in the frame, `count` from place `from` on
+module _ (link : Link) (p : List ℕ) (h : HalfMessage) (k : ℕ) (f : List ℕ) (from count : ℕ) where
+  abbrev pub enteredFrom : Answer × OneLink
+  enteredFrom = entered (oneLink link p) h k (part f from count)
+
+  abbrev pub offeredFrom : Answer × OneLink
+  offeredFrom = offered (oneLink link p) h k (part f from count)
+
+-- a Start that begins a message
+abbrev pub begunFrom : Link → List ℕ → Segment → ℕ → ℕ → List ℕ → Answer × OneLink
+begunFrom link p s n c f = enteredFrom link p (begun (s .number) n c) 0 f (s .from) (s .count)
+
+-- a segment k of the message h is offered
+pub record OfferAsks (h : HalfMessage) (p f : List ℕ) (from count : ℕ) : Type 0 where
+  pub room : length p ≡ 1469
+  pub someOctets : 1 ≤ h .length
+  pub fewOctets : h .length ≤ 1469
+  pub inFrame : from + count ≤ length f
+
+-- it is entered
+pub record EnterAsks (h : HalfMessage) (k : ℕ) (p f : List ℕ) (from count : ℕ) : Type 0 where
+  pub room : length p ≡ 1469
+  pub someOctets : 1 ≤ h .length
+  pub fewOctets : h .length ≤ 1469
+  pub inFrame : from + count ≤ length f
+  pub inside : k ≤ segN (h .length)
+  pub right : count ≡ segmentLength (h .length) k
+
+-- ---- a segment at its link
+
+-- what is half-received has a length in range
+abbrev pub InRange : HalfReceived → Type 0
+InRange H.Nothing = Unit {0}
+InRange (H.Message h) = (1 ≤ h .length) × (h .length ≤ 1469)
+
+-- a segment that stands in a frame, with its header h
+pub record SegmentAsks (link : Link) (p f : List ℕ) (s : Segment) (h : SegmentHeader) : Type 0 where
+  pub room : length p ≡ 1469
+  pub half : InRange (link .half)
+  pub inFrame : s .from + s .count ≤ length f
+  pub fits : Fits h (s .count)
+
+module _ (link : Link) (p f : List ℕ) (s : Segment) where
+  abbrev pub byHeader : SegmentHeader → Answer × OneLink
+  byHeader h = onHalf (oneLink link p) (link .half) (s .number) h (part f (s .from) (s .count))
+
+  abbrev pub segmentSteps : Answer × OneLink
+  segmentSteps = segmentStep (oneLink link p) (s .number) (s .header) (part f (s .from) (s .count))
+
+  abbrev pub segmentTaken : Answer × OneLink
+  segmentTaken = frameStep Provisioner (oneLink link p) (link .state) f (P.Segment s)
+
+-- ---- a frame of another kind, at a link and a station without their octets
+
+abbrev pub NoSegment : Parsed → Type 0
+NoSegment (P.Segment s) = ⊥
+NoSegment (P.Acknowledgement id t) = Unit {0}
+NoSegment (P.Open id uuid) = Unit {0}
+NoSegment (P.Ack id) = Unit {0}
+NoSegment (P.Close id reason) = Unit {0}
+NoSegment (P.Refused r) = Unit {0}
+
+abbrev pub otherStep : Link → LinkState → Parsed → Answer × OneLink
+otherStep link state p = frameStep Provisioner (oneLink link []) state [] p
+
+abbrev pub otherAt : List Link → Found → Parsed → Received
+otherAt links found p = receivedOf (atSocket Provisioner (stationOf links []) found [] p)
+
+abbrev pub otherFrame : List Link → Parsed → Received
+otherFrame links p = receivedOf (onFrame Provisioner (stationOf links []) [] p)
+
+-- ---- a segment at the station
+
+pub record SocketAsks (links : List Link) (area f : List ℕ) (s : Segment) : Type 0 where
+  pub room : length area ≡ 11752
+  pub state : good Provisioner links ≡ true
+  pub inFrame : s .from + s .count ≤ length f
+  pub fits : Fits (s .header) (s .count)
+
+abbrev pub atFound : List Link → List ℕ → List ℕ → Segment → Found → Answer × Station
+atFound links area f s found = atSocket Provisioner (stationOf links area) found f (P.Segment s)
+
+-- ---- a local call at a socket
+
+pub record CallAsks (links : List Link) (s : Socket) : Type 0 where
+  pub low : 1 ≤ s .0
+  pub high : s .0 ≤ 8
+  pub state : good Provisioner links ≡ true

@@ -1,0 +1,711 @@
+// The station: eight sockets, the provisioner's end. Each call takes the eight link records by value and hands them back.
+use links::Answer;
+use links::Found;
+use links::HalfMessage;
+use links::HalfReceived;
+use links::LastDelivered;
+use links::Link;
+use links::LinkState;
+use links::Refusal;
+use links::Side;
+use pb_adv::FrameRefusal;
+use pb_adv::Parsed;
+use pb_adv::Segment;
+use pb_adv::SegmentHeader;
+use pb_adv::Socket;
+use pb_adv::TransactionNumber;
+ghost use Prim.Native.Nat.{_-_, _≤_, _<_};
+ghost use mathlib.Core.List.{[]};
+ghost use mathlib.Core.Path.{_≡_};
+ghost use lib.ListN.{length, getD, replicate};
+ghost use Rattle.pb_adv.specs.Segments.{isLength};
+ghost use Rattle.pb_adv.specs.declared.SegmentHeader.the-variants.{Start, Continuation};
+ghost use Rattle.links.specs.Links.{blank, blankWith, withState, withReceived, withSending, find};
+ghost use Rattle.links.specs.Segments.{begun, marked};
+ghost use Rattle.links.specs.Station.{noLink, acknowledgementStep, frameRefusal, localOpen, localSend, localClose};
+ghost use Rattle.links.specs.declared.Side.the-variants.{Provisioner};
+ghost use Rattle.links.specs.declared.LinkState.the-variants.{Opening, Open};
+ghost use Rattle.links.specs.declared.Found.the-variants.{At};
+ghost use Rattle.station.specs.Calls.{receiving, receivedOf, calledOf, oneLink, steppedOf};
+ghost use Rattle.station.specs.Steps.{callRefused, linkRefused, stored, completed, compared, enteredFrom, offeredFrom, begunFrom, OfferAsks, EnterAsks, SegmentAsks, byHeader, segmentSteps, segmentTaken, NoSegment, otherStep, otherAt, otherFrame, SocketAsks, atFound, CallAsks};
+
+// The records after a call, and its answer.
+pub struct Received {
+    pub links: [Link; 8],
+    pub answer: Answer,
+}
+
+// One record after a step of its link, and the answer.
+pub struct Stepped {
+    pub link: Link,
+    pub answer: Answer,
+}
+
+// The records as they were, and a refusal.
+fn refuse_call(links: [Link; 8], refusal: Refusal) -> Received
+    ensures { λ r. ⌜ r ≡ callRefused links refusal ⌝ }
+{
+    Received {
+        links: links,
+        answer: Answer::Refused(refusal),
+    }
+}
+
+// The record as it was, and a refusal.
+fn refuse_link(link: Link, refusal: Refusal) -> Stepped
+    ensures { λ r. ⌜ r ≡ linkRefused link refusal ⌝ }
+{
+    Stepped {
+        link: link,
+        answer: Answer::Refused(refusal),
+    }
+}
+
+// The place of a socket's record.
+fn place_of(socket: Socket) -> usize
+    requires { ⌜ (1 ≤ socket .0) × (socket .0 ≤ 8) ⌝ }
+    ensures { λ r. ⌜ (r ≡ socket .0 - 1) × (r < 8) ⌝ }
+{
+    socket.0 as usize - 1
+}
+
+// The record at a place.
+fn link_at(links: [Link; 8], place: usize) -> Link
+    requires { ⌜ place < 8 ⌝ }
+    ensures { λ r. ⌜ r ≡ getD links place noLink ⌝ }
+{
+    links[place]
+}
+
+// The records with the one at a place after its step, and the answer.
+fn store(links: [Link; 8], place: usize, stepped: Stepped) -> Received
+    requires { ⌜ place < 8 ⌝ }
+    ensures { λ r. ⌜ r ≡ stored links place stepped ⌝ }
+{
+    let link = stepped.link;
+    let answer = stepped.answer;
+    let mut out = links;
+    out[place] = link;
+    Received {
+        links: out,
+        answer: answer,
+    }
+}
+
+// A record in a state and with a Link ID, and else blank.
+fn blank_with(state: LinkState, id: u32) -> Link
+    ensures { λ r. ⌜ r ≡ blankWith Provisioner state id ⌝ }
+{
+    Link {
+        state: state,
+        id: id,
+        next: TransactionNumber(0),
+        outstanding: false,
+        last: LastDelivered::Nothing,
+        half: HalfReceived::Nothing,
+    }
+}
+
+// The records of a station at its start: eight sockets, all free.
+pub fn blank_links() -> [Link; 8]
+    ensures { λ r. ⌜ r ≡ replicate 8 (blank Provisioner) ⌝ }
+{
+    let link = blank_with(LinkState::Free, 0);
+    [link; 8]
+}
+
+fn with_state(link: Link, state: LinkState) -> Link
+    ensures { λ r. ⌜ r ≡ withState link state ⌝ }
+{
+    let next = link.next;
+    let last = link.last;
+    let half = link.half;
+    Link {
+        state: state,
+        id: link.id,
+        next: next,
+        outstanding: link.outstanding,
+        last: last,
+        half: half,
+    }
+}
+
+fn with_received(link: Link, last: LastDelivered, half: HalfReceived) -> Link
+    ensures { λ r. ⌜ r ≡ withReceived link last half ⌝ }
+{
+    let state = link.state;
+    let next = link.next;
+    Link {
+        state: state,
+        id: link.id,
+        next: next,
+        outstanding: link.outstanding,
+        last: last,
+        half: half,
+    }
+}
+
+fn with_sending(link: Link, next: TransactionNumber, outstanding: bool) -> Link
+    ensures { λ r. ⌜ r ≡ withSending link next outstanding ⌝ }
+{
+    let state = link.state;
+    let last = link.last;
+    let half = link.half;
+    Link {
+        state: state,
+        id: link.id,
+        next: next,
+        outstanding: outstanding,
+        last: last,
+        half: half,
+    }
+}
+
+// A message of which nothing is in yet.
+fn begin(number: TransactionNumber, length: u16, check: u8) -> HalfMessage
+    ensures { λ r. ⌜ r ≡ begun number length check ⌝ }
+{
+    HalfMessage {
+        number: number,
+        length: length,
+        check: check,
+        marks: 0,
+    }
+}
+
+// The message with a segment in too.
+fn mark(message: HalfMessage, index: u16) -> HalfMessage
+    requires { ⌜ index ≤ 63 ⌝ }
+    ensures { λ r. ⌜ r ≡ marked message index ⌝ }
+{
+    let number = message.number;
+    let marks = link_fields::with_mark(message.marks, index as usize);
+    HalfMessage {
+        number: number,
+        length: message.length,
+        check: message.check,
+        marks: marks,
+    }
+}
+
+// The link after the message got a segment: delivered, refused by its check octet, or kept.
+fn complete(link: Link, message: HalfMessage, part: &[u8]) -> Stepped
+    requires { ⌜ message .length ≤ length (now part) ⌝ }
+    ensures { λ r. ⌜ r ≡ completed link message (now (part .entry)) ⌝ }
+{
+    let number = message.number;
+    let length = message.length;
+    let last = link.last;
+    if link_fields::all_marked(pb_adv::last_segment(length) as usize, message.marks) {
+        let n = length as usize;
+        if fcs::check_octet(&part[..n]) == message.check {
+            let whole = with_received(link, LastDelivered::Number(number), HalfReceived::Nothing);
+            return Stepped {
+                link: whole,
+                answer: Answer::Delivered {
+                    length: length,
+                    number: number,
+                },
+            };
+        }
+        let wrong = with_received(link, last, HalfReceived::Nothing);
+        return Stepped {
+            link: wrong,
+            answer: Answer::Refused(Refusal::WrongCheck),
+        };
+    }
+    let kept = with_received(link, last, HalfReceived::Message(message));
+    Stepped {
+        link: kept,
+        answer: Answer::Kept,
+    }
+}
+
+// Enters a new segment.
+fn enter(
+    link: Link,
+    message: HalfMessage,
+    index: u16,
+    part: &mut [u8],
+    frame: &[u8],
+    from: usize,
+    count: usize,
+) -> Stepped
+    requires { ⌜ EnterAsks message index (now part) (now frame) from count ⌝ }
+    ensures { λ r. ⌜ (r ≡ steppedOf (enteredFrom link (now (part .entry)) message index (now (frame .entry)) from count))
+        × (now (part .exit) ≡ enteredFrom link (now (part .entry)) message index (now (frame .entry)) from count .1 .part) ⌝ }
+{
+    octets::copy(part, pb_adv::segment_place(index), frame, from, count);
+    let more = mark(message, index);
+    complete(link, more, &part[..])
+}
+
+// Compares a segment that is in with what is there.
+fn compare(index: u16, part: &[u8], frame: &[u8], from: usize, count: usize) -> Answer
+    ensures { λ r. ⌜ r ≡ compared index (now (part .entry)) (now (frame .entry)) from count ⌝ }
+{
+    if octets::same_part(part, pb_adv::segment_place(index), frame, from, count) {
+        Answer::Repeat
+    } else {
+        Answer::Refused(Refusal::Mismatch)
+    }
+}
+
+// A segment of the message that is half-received.
+fn offer(
+    link: Link,
+    message: HalfMessage,
+    index: u16,
+    part: &mut [u8],
+    frame: &[u8],
+    from: usize,
+    count: usize,
+) -> Stepped
+    requires { ⌜ OfferAsks message (now part) (now frame) from count ⌝ }
+    ensures { λ r. ⌜ (r ≡ steppedOf (offeredFrom link (now (part .entry)) message index (now (frame .entry)) from count))
+        × (now (part .exit) ≡ offeredFrom link (now (part .entry)) message index (now (frame .entry)) from count .1 .part) ⌝ }
+{
+    let length = message.length;
+    if pb_adv::last_segment(length) < index {
+        return refuse_link(link, Refusal::Mismatch);
+    }
+    if count != pb_adv::segment_length(length, index) {
+        return refuse_link(link, Refusal::Mismatch);
+    }
+    if link_fields::is_marked(message.marks, index as usize) {
+        let answer = compare(index, &part[..], frame, from, count);
+        return Stepped {
+            link: link,
+            answer: answer,
+        };
+    }
+    enter(link, message, index, part, frame, from, count)
+}
+
+// A Start that begins a message.
+fn begin_message(
+    link: Link,
+    segment: Segment,
+    length: u16,
+    check: u8,
+    part: &mut [u8],
+    frame: &[u8],
+) -> Stepped
+    requires { ⌜ SegmentAsks link (now part) (now frame) segment (Start length check) ⌝ }
+    ensures { λ r. ⌜ (r ≡ steppedOf (begunFrom link (now (part .entry)) segment length check (now (frame .entry))))
+        × (now (part .exit) ≡ begunFrom link (now (part .entry)) segment length check (now (frame .entry)) .1 .part) ⌝ }
+{
+    let number = segment.number;
+    let message = begin(number, length, check);
+    enter(link, message, 0, part, frame, segment.from, segment.count)
+}
+
+// A Start: it begins a message, or is segment 0 of the one that is half-received.
+fn on_start(
+    link: Link,
+    segment: Segment,
+    length: u16,
+    check: u8,
+    part: &mut [u8],
+    frame: &[u8],
+) -> Stepped
+    requires { ⌜ SegmentAsks link (now part) (now frame) segment (Start length check) ⌝ }
+    ensures { λ r. ⌜ (r ≡ steppedOf (byHeader link (now (part .entry)) (now (frame .entry)) segment (Start length check)))
+        × (now (part .exit) ≡ byHeader link (now (part .entry)) (now (frame .entry)) segment (Start length check) .1 .part) ⌝ }
+{
+    let number = segment.number;
+    let half = link.half;
+    let HalfReceived::Message(message) = half else {
+        return begin_message(link, segment, length, check, part, frame);
+    };
+    let current = message.number;
+    if current.0 != number.0 {
+        return begin_message(link, segment, length, check, part, frame);
+    }
+    if message.length != length {
+        return refuse_link(link, Refusal::Mismatch);
+    }
+    if message.check != check {
+        return refuse_link(link, Refusal::Mismatch);
+    }
+    offer(link, message, 0, part, frame, segment.from, segment.count)
+}
+
+// A Continuation of the message that is half-received.
+fn on_continuation(
+    link: Link,
+    segment: Segment,
+    index: u8,
+    part: &mut [u8],
+    frame: &[u8],
+) -> Stepped
+    requires { ⌜ SegmentAsks link (now part) (now frame) segment (Continuation index) ⌝ }
+    ensures { λ r. ⌜ (r ≡ steppedOf (byHeader link (now (part .entry)) (now (frame .entry)) segment (Continuation index)))
+        × (now (part .exit) ≡ byHeader link (now (part .entry)) (now (frame .entry)) segment (Continuation index) .1 .part) ⌝ }
+{
+    let number = segment.number;
+    let half = link.half;
+    let HalfReceived::Message(message) = half else {
+        return refuse_link(link, Refusal::NotBegun);
+    };
+    let current = message.number;
+    if current.0 != number.0 {
+        return refuse_link(link, Refusal::NotBegun);
+    }
+    offer(
+        link,
+        message,
+        index as u16,
+        part,
+        frame,
+        segment.from,
+        segment.count,
+    )
+}
+
+// A segment at an open link.
+fn step_segment(link: Link, segment: Segment, part: &mut [u8], frame: &[u8]) -> Stepped
+    requires { ⌜ SegmentAsks link (now part) (now frame) segment (segment .header) ⌝ }
+    ensures { λ r. ⌜ (r ≡ steppedOf (segmentSteps link (now (part .entry)) (now (frame .entry)) segment))
+        × (now (part .exit) ≡ segmentSteps link (now (part .entry)) (now (frame .entry)) segment .1 .part) ⌝ }
+{
+    let last = link.last;
+    let number = segment.number;
+    let header = segment.header;
+    if link_fields::is_last(last, number) {
+        return Stepped {
+            link: link,
+            answer: Answer::AcknowledgeAgain,
+        };
+    }
+    match header {
+        SegmentHeader::Start { length, check } => on_start(
+            link,
+            segment,
+            length,
+            check,
+            part,
+            frame,
+        ),
+        SegmentHeader::Continuation { index } => on_continuation(link, segment, index, part, frame),
+    }
+}
+
+// A segment at a link of its Link ID, by the link's state.
+fn take_segment(link: Link, segment: Segment, part: &mut [u8], frame: &[u8]) -> Stepped
+    requires { ⌜ SegmentAsks link (now part) (now frame) segment (segment .header) ⌝ }
+    ensures { λ r. ⌜ (r ≡ steppedOf (segmentTaken link (now (part .entry)) (now (frame .entry)) segment))
+        × (now (part .exit) ≡ segmentTaken link (now (part .entry)) (now (frame .entry)) segment .1 .part) ⌝ }
+{
+    let state = link.state;
+    let number = segment.number;
+    match state {
+        LinkState::Free => refuse_link(link, Refusal::UnknownLink),
+        LinkState::Opening => refuse_link(link, Refusal::NotOpen),
+        LinkState::Open => {
+            if link_fields::is_sent_by(Side::Device, number) {
+                step_segment(link, segment, part, frame)
+            } else {
+                refuse_link(link, Refusal::WrongDirection)
+            }
+        }
+    }
+}
+
+// The refusal of octets that are no frame.
+fn refusal_of(refusal: FrameRefusal) -> Refusal
+    ensures { λ r. ⌜ r ≡ frameRefusal refusal ⌝ }
+{
+    match refusal {
+        FrameRefusal::Malformed => Refusal::Malformed,
+        FrameRefusal::UnknownOpcode => Refusal::UnknownOpcode,
+    }
+}
+
+// An acknowledgement at an open link.
+fn on_acknowledgement(link: Link, number: TransactionNumber) -> Stepped
+    ensures { λ r. ⌜ r ≡ steppedOf (acknowledgementStep (oneLink link []) number) ⌝ }
+{
+    let next = link.next;
+    if link.outstanding {
+        if next.0 == number.0 {
+            let after = with_sending(link, number.next(), false);
+            return Stepped {
+                link: after,
+                answer: Answer::Acknowledged,
+            };
+        }
+        return refuse_link(link, Refusal::NotOutstanding);
+    }
+    refuse_link(link, Refusal::NotOutstanding)
+}
+
+// A frame at an opening link.
+fn step_opening(link: Link, parsed: Parsed) -> Stepped
+    ensures { λ r. ⌜ r ≡ steppedOf (otherStep link Opening parsed) ⌝ }
+{
+    match parsed {
+        Parsed::Segment(_) => refuse_link(link, Refusal::NotOpen),
+        Parsed::Acknowledgement { id: _, number: _ } => { refuse_link(link, Refusal::NotOpen) }
+        Parsed::Open { id: _, uuid: _ } => refuse_link(link, Refusal::NotOpen),
+        Parsed::Ack { id: _ } => Stepped {
+            link: with_state(link, LinkState::Open),
+            answer: Answer::Opened,
+        },
+        Parsed::Close { id: _, reason } => {
+            Stepped {
+                link: blank_with(LinkState::Free, 0),
+                answer: Answer::Closed { reason: reason },
+            }
+        }
+        Parsed::Refused(refusal) => refuse_link(link, refusal_of(refusal)),
+    }
+}
+
+// A frame at an open link; a segment does not come here.
+fn step_open(link: Link, parsed: Parsed) -> Stepped
+    requires { ⌜ NoSegment parsed ⌝ }
+    ensures { λ r. ⌜ r ≡ steppedOf (otherStep link Open parsed) ⌝ }
+{
+    match parsed {
+        Parsed::Segment(_) => refuse_link(link, Refusal::WrongDirection),
+        Parsed::Acknowledgement { id: _, number } => {
+            if link_fields::is_sent_by(Side::Provisioner, number) {
+                on_acknowledgement(link, number)
+            } else {
+                refuse_link(link, Refusal::WrongDirection)
+            }
+        }
+        Parsed::Open { id: _, uuid: _ } => refuse_link(link, Refusal::WrongDirection),
+        Parsed::Ack { id: _ } => Stepped {
+            link: link,
+            answer: Answer::Already,
+        },
+        Parsed::Close { id: _, reason } => {
+            Stepped {
+                link: blank_with(LinkState::Free, 0),
+                answer: Answer::Closed { reason: reason },
+            }
+        }
+        Parsed::Refused(refusal) => refuse_link(link, refusal_of(refusal)),
+    }
+}
+
+// A frame that is no segment at a link of its Link ID, by the link's state.
+fn step_frame(link: Link, parsed: Parsed) -> Stepped
+    requires { ⌜ NoSegment parsed ⌝ }
+    ensures { λ r. ⌜ r ≡ steppedOf (otherStep link (link .state) parsed) ⌝ }
+{
+    let state = link.state;
+    match state {
+        LinkState::Free => refuse_link(link, Refusal::UnknownLink),
+        LinkState::Opening => step_opening(link, parsed),
+        LinkState::Open => step_open(link, parsed),
+    }
+}
+
+// A frame that is no segment, for the link of a Link ID.
+fn at_link(links: [Link; 8], id: u32, parsed: Parsed) -> Received
+    requires { ⌜ NoSegment parsed ⌝ }
+    ensures { λ r. ⌜ r ≡ otherAt links (find links id) parsed ⌝ }
+{
+    let found = link_state::find_link(links, id);
+    let Found::At(place) = found else {
+        return refuse_call(links, Refusal::UnknownLink);
+    };
+    let link = link_at(links, place);
+    let stepped = step_frame(link, parsed);
+    store(links, place, stepped)
+}
+
+// A frame of another kind; a segment does not come here.
+fn receive_other(links: [Link; 8], parsed: Parsed) -> Received
+    requires { ⌜ NoSegment parsed ⌝ }
+    ensures { λ r. ⌜ r ≡ otherFrame links parsed ⌝ }
+{
+    match parsed {
+        Parsed::Segment(_) => refuse_call(links, Refusal::Malformed),
+        Parsed::Acknowledgement { id, number: _ } => at_link(links, id, parsed),
+        Parsed::Open { id, uuid: _ } => at_link(links, id, parsed),
+        Parsed::Ack { id } => at_link(links, id, parsed),
+        Parsed::Close { id, reason: _ } => at_link(links, id, parsed),
+        Parsed::Refused(refusal) => refuse_call(links, refusal_of(refusal)),
+    }
+}
+
+// A segment for the link at a place.
+fn at_socket(
+    links: [Link; 8],
+    place: usize,
+    segment: Segment,
+    area: &mut [u8],
+    frame: &[u8],
+) -> Received
+    requires { ⌜ (place < 8) × SocketAsks links (now area) (now frame) segment ⌝ }
+    ensures { λ r. ⌜ (r ≡ receivedOf (atFound links (now (area .entry)) (now (frame .entry)) segment (At place)))
+        × (now (area .exit) ≡ atFound links (now (area .entry)) (now (frame .entry)) segment (At place) .1 .area) ⌝ }
+{
+    let link = link_at(links, place);
+    let base = 1469 * place;
+    let stepped = take_segment(link, segment, &mut area[base..base + 1469], frame);
+    store(links, place, stepped)
+}
+
+// A segment, for the link of its Link ID.
+fn receive_segment(links: [Link; 8], segment: Segment, area: &mut [u8], frame: &[u8]) -> Received
+    requires { ⌜ SocketAsks links (now area) (now frame) segment ⌝ }
+    ensures { λ r. ⌜ (r ≡ receivedOf (atFound links (now (area .entry)) (now (frame .entry)) segment (find links (segment .id))))
+        × (now (area .exit) ≡ atFound links (now (area .entry)) (now (frame .entry)) segment (find links (segment .id)) .1 .area) ⌝ }
+{
+    let found = link_state::find_link(links, segment.id);
+    let Found::At(place) = found else {
+        return refuse_call(links, Refusal::UnknownLink);
+    };
+    at_socket(links, place, segment, area, frame)
+}
+
+// Receives a frame. The area has 11,752 octets, 1,469 for each socket.
+pub fn receive(links: [Link; 8], area: &mut [u8], frame: &[u8]) -> Received
+    ensures { λ r. ⌜ (r ≡ receivedOf (receiving links (now (area .entry)) (now (frame .entry))))
+        × (now (area .exit) ≡ receiving links (now (area .entry)) (now (frame .entry)) .1 .area) ⌝ }
+{
+    if area.len() != 11752 {
+        return refuse_call(links, Refusal::WrongArgument);
+    }
+    if link_state::is_good(Side::Provisioner, links) {
+        let parsed = pb_adv::parse(frame);
+        let Parsed::Segment(segment) = parsed else {
+            return receive_other(links, parsed);
+        };
+        return receive_segment(links, segment, area, frame);
+    }
+    refuse_call(links, Refusal::BadState)
+}
+
+// Opens a link at a socket of the station, in a state that is not bad.
+fn open_at(links: [Link; 8], socket: Socket, id: u32) -> Received
+    requires { ⌜ CallAsks links socket ⌝ }
+    ensures { λ r. ⌜ r ≡ calledOf (localOpen Provisioner links socket id) ⌝ }
+{
+    let place = place_of(socket);
+    let link = link_at(links, place);
+    let state = link.state;
+    if link_fields::is_in_use(state) {
+        return refuse_call(links, Refusal::SocketInUse);
+    }
+    let taken = link_state::find_link(links, id);
+    match taken {
+        Found::At(_) => refuse_call(links, Refusal::LinkIdInUse),
+        Found::Nowhere => {
+            let opened = blank_with(LinkState::Opening, id);
+            store(
+                links,
+                place,
+                Stepped {
+                    link: opened,
+                    answer: Answer::Done,
+                },
+            )
+        }
+    }
+}
+
+// Opens a link with a Link ID at a socket.
+pub fn open(links: [Link; 8], socket: Socket, id: u32) -> Received
+    ensures { λ r. ⌜ r ≡ calledOf (localOpen Provisioner links socket id) ⌝ }
+{
+    if socket.is_one_of(8) {
+        if link_state::is_good(Side::Provisioner, links) {
+            return open_at(links, socket, id);
+        }
+        return refuse_call(links, Refusal::BadState);
+    }
+    refuse_call(links, Refusal::WrongArgument)
+}
+
+// Begins to send on a socket of the station, in a state that is not bad.
+fn send_at(links: [Link; 8], socket: Socket, length: u16) -> Received
+    requires { ⌜ CallAsks links socket × (1 ≤ length) × (length ≤ 1469) ⌝ }
+    ensures { λ r. ⌜ r ≡ calledOf (localSend Provisioner links socket length) ⌝ }
+{
+    let place = place_of(socket);
+    let link = link_at(links, place);
+    let state = link.state;
+    if link_fields::is_open(state) {
+        if link.outstanding {
+            return refuse_call(links, Refusal::Outstanding);
+        }
+        let number = link.next;
+        let last = pb_adv::last_segment(length);
+        let sending = with_sending(link, number, true);
+        return store(
+            links,
+            place,
+            Stepped {
+                link: sending,
+                answer: Answer::Sending {
+                    number: number,
+                    last: last,
+                },
+            },
+        );
+    }
+    refuse_call(links, Refusal::NotOpen)
+}
+
+fn is_length(length: usize) -> bool
+    ensures { λ r. ⌜ r ≡ isLength length ⌝ }
+{
+    if 1 <= length { length <= 1469 } else { false }
+}
+
+// Begins to send a message of so many octets on a socket's link: its number and SegN.
+pub fn send(links: [Link; 8], socket: Socket, length: usize) -> Received
+    ensures { λ r. ⌜ r ≡ calledOf (localSend Provisioner links socket length) ⌝ }
+{
+    if socket.is_one_of(8) {
+        if is_length(length) {
+            if link_state::is_good(Side::Provisioner, links) {
+                return send_at(links, socket, length as u16);
+            }
+            return refuse_call(links, Refusal::BadState);
+        }
+        return refuse_call(links, Refusal::WrongArgument);
+    }
+    refuse_call(links, Refusal::WrongArgument)
+}
+
+// Closes a link of the station, in a state that is not bad.
+fn close_at(links: [Link; 8], socket: Socket) -> Received
+    requires { ⌜ CallAsks links socket ⌝ }
+    ensures { λ r. ⌜ r ≡ calledOf (localClose Provisioner links socket) ⌝ }
+{
+    let place = place_of(socket);
+    let link = link_at(links, place);
+    let state = link.state;
+    if link_fields::is_in_use(state) {
+        let closed = blank_with(LinkState::Free, 0);
+        return store(
+            links,
+            place,
+            Stepped {
+                link: closed,
+                answer: Answer::Done,
+            },
+        );
+    }
+    refuse_call(links, Refusal::NotOpen)
+}
+
+// Closes a socket's link.
+pub fn close(links: [Link; 8], socket: Socket) -> Received
+    ensures { λ r. ⌜ r ≡ calledOf (localClose Provisioner links socket) ⌝ }
+{
+    if socket.is_one_of(8) {
+        if link_state::is_good(Side::Provisioner, links) {
+            return close_at(links, socket);
+        }
+        return refuse_call(links, Refusal::BadState);
+    }
+    refuse_call(links, Refusal::WrongArgument)
+}
