@@ -1,11 +1,13 @@
 -- "Figures at the edges": the figures marked (P), as a single table under one claim about our definitions.
 use Prim.Native.Nat.{ℕ}
-use mathlib.Core.Bool.{Bool, true, _&&_}
+use mathlib.Core.Bool.{Bool, true, _&&_, not}
 use mathlib.Core.List.{List, [], _∷_}
 use mathlib.Core.Path.{_≡_}
 use lib.Dec.{eqb}
 use Rattle.fcs.specs.Fcs.{checkOctet}
 use Rattle.pb_adv.specs.Segments.{segN}
+use Rattle.beacon.specs.Rules.{outOfWindow}
+use Rattle.beacon.specs.declared.Subnet.the-variants.{Primary}
 
 -- what a figure says
 pub data Figure : Type 0 where
@@ -13,11 +15,14 @@ pub data Figure : Type 0 where
   check : List ℕ → ℕ → Figure
   -- SegN for a length L
   last : ℕ → ℕ → Figure
+  -- with IV index I known, index B gives no 57 on the primary subnet
+  inWindow : ℕ → ℕ → Figure
 
 -- whether our definitions give it
 abbrev pub holds : Figure → Bool
 holds (check m c) = eqb (checkOctet m) c
 holds (last l n) = eqb (segN l) n
+holds (inWindow i b) = not (outOfWindow i Primary b)
 
 abbrev pub allHold : List Figure → Bool
 allHold [] = true
@@ -36,6 +41,7 @@ figures =
     ∷ last 43 1
     ∷ last 44 2
     ∷ last 1469 63
+    ∷ inWindow 0xFFFFFFFF 0xFFFFFFFF
     ∷ []
 
 -- THE CLAIM
