@@ -1,5 +1,5 @@
 -- DEMAND 2 over a link: a message cut and received comes back, and a delivery comes only from the exact cut of what is delivered. The proofs
--- are `proofs/Demand2.antt`.
+-- are `proofs/Back.antt` and `proofs/Only.antt`.
 use Prim.Native.Nat.{ℕ, _≤_, _<_}
 use mathlib.Core.List.{List, [], _∷_, _++_, map, List·Memᴰ}
 use mathlib.Core.Path.{_≡_}
