@@ -1,16 +1,16 @@
 -- The promises of `specs/Promises.antt`.
 use Prim.Native.Nat.{ℕ, _+_, _≤_}
 use native.Mathlib.Omega.{arith}
-use mathlib.Core.Bool.{Bool, true, false, _&&_, _||_, not, cond}
+use mathlib.Core.Bool.{Bool, true, false, _&&_, not}
 use mathlib.Core.List.{List}
-use mathlib.Core.Path.{_≡_, refl, sym, ap, _∙_}
+use mathlib.Core.Path.{_≡_, refl, sym, _∙_}
 use lib.Dec.{leb, eqb}
 use lib.ListN.{length, getD}
-use borrow.Author.Tests.{leb-true, leb-false, eqb-true, eq-eqb, ne-eqb, le-leb, lt-leb}
-use Rattle.octets.proofs.Tests.{cases, both-hold}
-use Rattle.beacon.specs.Rules.{keyWrong, keyRule, outOfWindow, ivRule, recoveryStep, recoveryFrom, isSecondary}
+use borrow.Author.Tests.{leb-true, eq-eqb, ne-eqb, le-leb, lt-leb}
+use Rattle.octets.proofs.Tests.{cases}
+use Rattle.beacon.specs.Rules.{keyWrong, keyRule, outOfWindow, ivRule, recoveryStep, recoveryFrom}
 use Rattle.beacon.specs.Beacons.{refusing, isGood, unprovisioned, refreshFlag, updateFlag, indexOf, moved, secure, heard, atPhase, started, set}
-use Rattle.beacon.specs.Promises.{Safe, AllSafe, BothRules, Accepts, RulesApart, Apart, KeyTable, IvTable, normal, inProgress}
+use Rattle.beacon.specs.Promises.{Safe, AllSafe, Accepts, Apart, KeyTable, IvTable}
 use Rattle.beacon.specs.declared.Key.{Key}
 use Rattle.beacon.specs.declared.Key.the-variants.{Old, New}
 use Rattle.beacon.specs.declared.Subnet.{Subnet}
@@ -22,7 +22,6 @@ use Rattle.beacon.specs.declared.Hash.{Hash}
 use Rattle.beacon.specs.declared.Hash.the-variants as H
 use Rattle.beacon.specs.declared.BeaconRefusal.{BeaconRefusal}
 use Rattle.beacon.specs.declared.BeaconRefusal.the-variants as R
-use Rattle.beacon.specs.declared.BeaconAnswer.{BeaconAnswer}
 use Rattle.beacon.specs.declared.BeaconAnswer.the-variants as A
 use Rattle.beacon.specs.declared.Heard.{Heard}
 
@@ -135,7 +134,7 @@ unfolding moved
 safe-outcome s host b r (refuses q) = safe-refusing s q
 safe-outcome s host b r (tells u o h) = record { refusal-keeps = λ r e. refl; keeps-good = λ g. g; index-stays-or-rises = omega arith }
 safe-outcome s host b r (steps g w) = record {
-  refusal-keeps = λ q e. never q _ _ e;
+  refusal-keeps = λ n e. let z : _≡_ {A = ℕ} 0 1 = cc in absurd (omega arith);
   keeps-good = λ g. phase-good (s .phase) (host .key) (refreshFlag b) g;
   index-stays-or-rises = index-between (s .iv) (indexOf b) (updateFlag b) (in-window (s .iv .index) (indexOf b) (host .subnet) w) .0;
 }

@@ -7,7 +7,6 @@ use lib.ListN.{length, getD}
 use Rattle.octets.specs.Numbers.{big16, big32}
 use Rattle.octets.specs.Told.{Told, refused, answered}
 use Rattle.beacon.specs.Rules.{keyWrong, keyRule, outOfWindow, ivRule}
-use Rattle.beacon.specs.declared.IvState.{IvState}
 use Rattle.beacon.specs.declared.SecurityState.{SecurityState}
 use Rattle.beacon.specs.declared.Hearing.{Hearing}
 use Rattle.beacon.specs.declared.Hash.{Hash}
@@ -101,3 +100,25 @@ refusalNumber R.NotAuthentic = 54
 refusalNumber R.WrongKey = 55
 refusalNumber R.NotAllowed = 56
 refusalNumber R.OutOfWindow = 57
+
+-- the key rule's report: 1 is "revoke old"
+abbrev pub revokeValue : Bool → ℕ
+revokeValue true = 1
+revokeValue false = 0
+
+-- the IV rule's report: 1 is "reset sequence", 2 "recovery wanted"
+abbrev pub reportValue : IvReport → ℕ
+reportValue I.Nothing = 0
+reportValue I.ResetSequence = 1
+reportValue I.RecoveryWanted = 2
+
+-- the values that a hash adds
+abbrev pub hashValues : Hash → List ℕ
+hashValues H.Nothing = []
+hashValues (H.At place) = place ∷ []
+
+abbrev pub told : BeaconAnswer → Told
+told (A.Unprovisioned uuid oob hash) = answered "unprovisioned" (uuid ∷ oob ∷ hashValues hash)
+told (A.Secure revoke iv) = answered "secure" (revokeValue revoke ∷ reportValue iv ∷ [])
+told (A.Moved revoke) = answered "moved" (revokeValue revoke ∷ [])
+told (A.Refused r) = refused (refusalNumber r)

@@ -3,8 +3,9 @@ use Prim.Native.Nat.{ℕ, _+_, _≤_}
 use mathlib.Core.Bool.{Bool, true, false}
 use mathlib.Core.List.{List}
 use mathlib.Core.Path.{_≡_}
-use Rattle.beacon.specs.Rules.{keyWrong, keyRule, ivRule, recoveryStep}
-use Rattle.beacon.specs.Beacons.{isGood, refreshFlag, updateFlag, indexOf, heard, started, set}
+use Rattle.octets.specs.Told.{refused}
+use Rattle.beacon.specs.Rules.{keyWrong, keyRule, ivRule}
+use Rattle.beacon.specs.Beacons.{isGood, refreshFlag, updateFlag, indexOf, heard, started, set, told}
 use Rattle.beacon.specs.declared.Key.{Key}
 use Rattle.beacon.specs.declared.Key.the-variants.{Old, New}
 use Rattle.beacon.specs.declared.IvState.{IvState}
@@ -14,15 +15,13 @@ use Rattle.beacon.specs.declared.IvStep.{IvStep}
 use Rattle.beacon.specs.declared.KeyStep.{KeyStep}
 use Rattle.beacon.specs.declared.SecurityState.{SecurityState}
 use Rattle.beacon.specs.declared.Hearing.{Hearing}
-use Rattle.beacon.specs.declared.BeaconRefusal.{BeaconRefusal}
-use Rattle.beacon.specs.declared.BeaconAnswer.{BeaconAnswer}
 use Rattle.beacon.specs.declared.BeaconAnswer.the-variants as A
 use Rattle.beacon.specs.declared.Heard.{Heard}
 
 -- ---- every call: a refusal changes no state, and a good state stays good
 
 pub record Safe (s : SecurityState) (r : Heard) : Type 0 where
-  pub refusal-keeps : (q : BeaconRefusal) → r .answer ≡ A.Refused q → r .state ≡ s
+  pub refusal-keeps : (n : ℕ) → told (r .answer) ≡ refused n → r .state ≡ s
   pub keeps-good : isGood s ≡ true → isGood (r .state) ≡ true
   pub index-stays-or-rises : s .iv .index ≤ r .state .iv .index
 

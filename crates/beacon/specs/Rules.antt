@@ -7,7 +7,6 @@ use Rattle.beacon.specs.declared.Key.the-variants.{Old, New}
 use Rattle.beacon.specs.declared.Subnet.{Subnet}
 use Rattle.beacon.specs.declared.Subnet.the-variants.{Primary, Secondary}
 use Rattle.beacon.specs.declared.IvState.{IvState}
-use Rattle.beacon.specs.declared.IvReport.{IvReport}
 use Rattle.beacon.specs.declared.IvReport.the-variants as I
 use Rattle.beacon.specs.declared.KeyStep.{KeyStep}
 use Rattle.beacon.specs.declared.IvStep.{IvStep}

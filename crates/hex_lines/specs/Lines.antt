@@ -1,5 +1,5 @@
 -- One line of "Lines in, lines out": a message in hexadecimal in, its cut out, one frame a line.
-use Prim.Native.Nat.{ℕ, suc}
+use Prim.Native.Nat.{ℕ}
 use mathlib.Core.Bool.{Bool, _&&_, cond}
 use mathlib.Core.List.{List, [], _∷_, _++_, map}
 use lib.Dec.{leb}

@@ -1,6 +1,5 @@
 -- Demand 2, back: the segments of a message's cut, in any order that begins with the Start and with any repeats, give the message back.
 use Prim.Native.Nat.{ℕ, _≤_, _<_}
-use native.Mathlib.Omega.{arith}
 use mathlib.Core.Bool.{true, false, false≢true}
 use mathlib.Core.List.{List, [], _∷_, _++_, append-nil}
 use mathlib.Core.Path.{_≡_, refl, sym, ap, _∙_}
@@ -11,7 +10,7 @@ use Rattle.octets.proofs.Tests.{cases}
 use Rattle.pb_adv.specs.Segments.{segN}
 use Rattle.links.specs.Station.{Station}
 use Rattle.links.specs.Interleaving.{All}
-use Rattle.links.specs.Demand3.{Message, Call, segmentsFor, sinceStart, Each, octetsOf, Premises, Right, AllCome, First}
+use Rattle.links.specs.Demand3.{Message, Call, segmentsFor, sinceStart, octetsOf, Premises, Right, AllCome, First}
 use Rattle.links.specs.Demand2.{callsTo, GivenBack, Back}
 use Rattle.links.specs.declared.Side.{Side}
 use Rattle.links.proofs.Come.{complete, complete-nil, each-complete, complete-each}

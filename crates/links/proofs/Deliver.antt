@@ -1,28 +1,27 @@
 -- One link and the segments of one message, in any order and with any repeats.
 use Prim.Native.Nat.{ℕ, zero, suc, _+_, _≤_}
 use native.Mathlib.Omega.{arith}
-use mathlib.Core.Bool.{Bool, true, false, _&&_, cond, false≢true}
+use mathlib.Core.Bool.{true, false, cond, false≢true}
 use mathlib.Core.List.{List, [], _∷_, _++_, append-nil}
 use mathlib.Core.Logic.{_≢_}
 use mathlib.Core.Path.{_≡_, refl, sym, ap, _∙_}
-use lib.Dec.{eqb, leb}
+use lib.Dec.{eqb}
 use lib.ListN.{length, take}
 use lib.Seq.{append-snoc, take-all}
 use borrow.Author.Tests.{eqb-true, eqb-false, eq-eqb, le-leb}
-use Rattle.octets.specs.Parts.{write, same}
+use Rattle.octets.specs.Parts.{write}
 use Rattle.octets.specs.Cut.{piece}
 use Rattle.octets.proofs.Parts.{write-length, same-refl}
-use Rattle.octets.proofs.Cut.{place-up, last-begins, last-enough, piece-length, piece-fits, piece-same, piece-other, equal-pieces}
+use Rattle.octets.proofs.Cut.{place-up, last-begins, last-enough, piece-fits, piece-same, piece-other, equal-pieces}
 use Rattle.octets.proofs.Tests.{cases, both}
 use Rattle.fcs.specs.Fcs.{checkOctet}
 use Rattle.pb_adv.specs.Segments.{segN, segmentPlace, segmentLength, segment}
 use Rattle.pb_adv.specs.declared.TransactionNumber.{TransactionNumber}
-use Rattle.pb_adv.specs.declared.SegmentHeader.{SegmentHeader}
-use Rattle.pb_adv.proofs.Laws.{segment-long, segment-begins, segN-small}
+use Rattle.pb_adv.proofs.Laws.{segment-long, segment-begins}
 use Rattle.pb_adv_writing.specs.Writing.{headerOf}
-use Rattle.links.specs.Marks.{isMarked, withMark, allMarked}
+use Rattle.links.specs.Marks.{isMarked, withMark}
 use Rattle.links.specs.Links.{isLast, Awaits, withReceived}
-use Rattle.links.specs.Segments.{OneLink, marked, partWith, entered, offered, begun, onHalf, segmentStep}
+use Rattle.links.specs.Segments.{OneLink, entered, offered, segmentStep}
 use Rattle.links.specs.Interleaving.{All, stateAfter}
 use Rattle.links.specs.Demand3.{sinceStart}
 use Rattle.links.specs.declared.LastDelivered.{LastDelivered}
@@ -30,7 +29,6 @@ use Rattle.links.specs.declared.LastDelivered.the-variants as L
 use Rattle.links.specs.declared.HalfMessage.{HalfMessage}
 use Rattle.links.specs.declared.HalfReceived.{HalfReceived}
 use Rattle.links.specs.declared.HalfReceived.the-variants as H
-use Rattle.links.specs.declared.Link.{Link}
 use Rattle.links.specs.declared.Refusal.the-variants as R
 use Rattle.links.specs.declared.Answer.{Answer}
 use Rattle.links.specs.declared.Answer.the-variants as A

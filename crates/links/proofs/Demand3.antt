@@ -1,31 +1,28 @@
 -- Demand 3: any number of open links, one message each, any mixture of right segments.
-use Prim.Native.Nat.{ℕ, zero, suc, _*_, _≤_, _<_}
+use Prim.Native.Nat.{ℕ, _*_, _≤_, _<_}
 use native.Mathlib.Omega.{arith}
-use mathlib.Core.Bool.{Bool, true, false, _&&_, cond, false≢true}
+use mathlib.Core.Bool.{Bool, true, false, cond, false≢true}
 use mathlib.Core.List.{List, [], _∷_, _++_, append-assoc}
 use mathlib.Core.Logic.{_≢_}
 use mathlib.Core.Path.{_≡_, refl, sym, ap, _∙_, subst}
 use lib.Dec.{eqb}
-use lib.ListN.{length, getD, take}
+use lib.ListN.{length, take}
 use borrow.Author.Tests.{eqb-true, eqb-false, eq-eqb}
 use Rattle.octets.specs.Parts.{part}
-use Rattle.octets.proofs.Tests.{cases, both, holds-both}
+use Rattle.octets.proofs.Tests.{cases, both}
 use Rattle.pb_adv.specs.Segments.{segN, segment}
-use Rattle.pb_adv.specs.Frame.{parsed, carried}
-use Rattle.pb_adv.specs.Promises.{segmentSaid, Fits}
 use Rattle.pb_adv.specs.declared.TransactionNumber.{TransactionNumber}
-use Rattle.pb_adv_writing.specs.Writing.{headerOf, segmentFrame, SegmentAsked}
+use Rattle.pb_adv_writing.specs.Writing.{headerOf, SegmentAsked}
 use Rattle.pb_adv_writing.proofs.Promises.{parsed-frame, carried-frame, segment-fits}
-use Rattle.links.specs.Links.{peer, sends, Awaits, inUse, hasId, find}
-use Rattle.links.specs.Good.{goodAs, goodLink, good}
+use Rattle.links.specs.Links.{Awaits, inUse, find}
+use Rattle.links.specs.Good.{goodAs, good}
 use Rattle.links.specs.Segments.{OneLink, segmentStep}
-use Rattle.links.specs.Station.{Station, noLink, getLink, putLink, frameStep, received}
-use Rattle.links.specs.Interleaving.{keepIf, withKey, inTurn, All, stateAfter, answers, keyOf}
-use Rattle.links.specs.Demand3.{Message, Call, segmentsFor, sinceStart, Each, linkOf, octetsOf, Ready, Premises, Right, frameOf, receive, after, answer, AllCome, First, delivery, socketOf, Claim, Demand3}
+use Rattle.links.specs.Station.{Station, getLink, putLink, frameStep, received}
+use Rattle.links.specs.Interleaving.{keepIf, withKey, All, stateAfter}
+use Rattle.links.specs.Demand3.{Message, Call, segmentsFor, sinceStart, linkOf, octetsOf, Premises, Right, receive, after, answer, AllCome, First, socketOf, Claim, Demand3}
 use Rattle.links.specs.declared.Side.{Side}
 use Rattle.links.specs.declared.LinkState.the-variants as S
 use Rattle.links.specs.declared.HalfReceived.the-variants as H
-use Rattle.links.specs.declared.Link.{Link}
 use Rattle.links.specs.declared.Found.the-variants.{At}
 use Rattle.links.specs.declared.Refusal.the-variants as R
 use Rattle.links.specs.declared.Answer.{Answer}

@@ -1,9 +1,8 @@
 -- Demand 2, only: any octets on any calls; what a link delivers has come, frame by frame, since nothing was half-received.
 use Prim.Native.Nat.{ℕ, _*_, _≤_, _<_}
 use native.Mathlib.Omega.{arith}
-use mathlib.Core.Bool.{true, false, _&&_}
+use mathlib.Core.Bool.{_&&_}
 use mathlib.Core.List.{List, [], _∷_, _++_, append-nil, List·Memᴰ}
-use mathlib.Core.Logic.{_≢_}
 use mathlib.Core.Path.{_≡_, refl, sym, ap, _∙_, subst}
 use lib.Dec.{eqb}
 use lib.ListN.{length, getD, take}
@@ -16,13 +15,12 @@ use Rattle.pb_adv.specs.Segments.{segN}
 use Rattle.pb_adv.specs.Frame.{parsed, segmentOctets}
 use Rattle.pb_adv.specs.Promises.{Fits}
 use Rattle.pb_adv.specs.declared.TransactionNumber.{TransactionNumber}
-use Rattle.pb_adv.specs.declared.SegmentHeader.{SegmentHeader}
 use Rattle.pb_adv.specs.declared.Segment.{Segment}
 use Rattle.pb_adv.specs.declared.Parsed.{Parsed}
 use Rattle.pb_adv.specs.declared.Parsed.the-variants as P
 use Rattle.pb_adv.proofs.Promises.{segments-are-encodings}
 use Rattle.pb_adv_writing.specs.Writing.{segmentFrame}
-use Rattle.links.specs.Links.{peer, sends, inUse, hasId, find}
+use Rattle.links.specs.Links.{peer, sends, inUse, find}
 use Rattle.links.specs.Good.{good}
 use Rattle.links.specs.Segments.{OneLink, segmentStep}
 use Rattle.links.specs.Station.{Station, noLink, getLink, putLink, acknowledgementStep, ackStep, frameStep, frameRefusal, atSocket, onFrame, received}
@@ -33,7 +31,6 @@ use Rattle.links.specs.declared.Side.{Side}
 use Rattle.links.specs.declared.Side.the-variants.{Provisioner, Device}
 use Rattle.links.specs.declared.LinkState.{LinkState}
 use Rattle.links.specs.declared.LinkState.the-variants as S
-use Rattle.links.specs.declared.HalfReceived.the-variants as H
 use Rattle.links.specs.declared.Link.{Link}
 use Rattle.links.specs.declared.Found.{Found}
 use Rattle.links.specs.declared.Found.the-variants.{At, Nowhere}

@@ -8,7 +8,7 @@ use mathlib.Core.Path.{_≡_, refl, sym, ap, _∙_}
 use lib.Dec.{eqb, leb}
 use lib.ListN.{length, getD, set, take}
 use lib.Seq.{getD-set-other}
-use borrow.Author.Tests.{eqb-true, eqb-false, leb-true}
+use borrow.Author.Tests.{eqb-true, eqb-false, eq-eqb, leb-true}
 use Rattle.octets.specs.Numbers.{Octets}
 use Rattle.octets.specs.Parts.{part, write}
 use Rattle.octets.specs.Told.{Told, refused, answered}
@@ -16,8 +16,10 @@ use Rattle.octets.proofs.Tests.{cases, both-hold}
 use Rattle.fcs.specs.Fcs.{checkOctet}
 use Rattle.pb_adv.specs.Numbers.{isSocket}
 use Rattle.pb_adv.specs.Segments.{isLength, segN, segmentPlace}
-use Rattle.pb_adv.specs.Frame.{parsed, indexOf}
+use Rattle.pb_adv.specs.Frame.{parsed, indexOf, toldSegment, told as frameTold}
 use Rattle.pb_adv.specs.declared.Socket.{Socket}
+use Rattle.pb_adv.specs.declared.SegmentHeader.{SegmentHeader}
+use Rattle.pb_adv.specs.declared.SegmentHeader.the-variants.{Start, Continuation}
 use Rattle.pb_adv.specs.declared.Segment.{Segment}
 use Rattle.pb_adv.specs.declared.FrameRefusal.{FrameRefusal}
 use Rattle.pb_adv.specs.declared.FrameRefusal.the-variants as F
@@ -28,7 +30,7 @@ use Rattle.links.specs.Links.{peer, sends, withReceived, withSending, bl
 use Rattle.links.specs.Good.{goodLink, good}
 use Rattle.links.specs.Segments.{OneLink, entered, segmentStep}
 use Rattle.links.specs.Station.{Station, noLink, getLink, putLink, acknowledgementStep, frameRefusal, frameStep, atSocket, onFrame, received, linkAt, withLink, judged, isFound, localOpen, isOpen, localSend, localClose}
-use Rattle.links.specs.Promises.{Sized, ReceivingRefusalKeeps, AfterWrongCheck, WrongCheckRemains, ReceivingKeepsGood, addressed, ReceivingLeavesOthers, LocalCall, LocalCalls}
+use Rattle.links.specs.Promises.{Sized, ReceivingRefusalKeeps, NoFrameRefused, AfterWrongCheck, WrongCheckRemains, ReceivingKeepsGood, addressed, ReceivingLeavesOthers, LocalCall, LocalCalls}
 use Rattle.links.specs.declared.Side.{Side}
 use Rattle.links.specs.declared.Side.the-variants.{Provisioner, Device}
 use Rattle.links.specs.declared.LinkState.{LinkState}
@@ -202,6 +204,23 @@ wrong-check-remains side σ f e = of (received-refused side σ f 8 e)
     of : LeavesAll side σ f 8 → AfterWrongCheck side σ f
     of (asItWas k q) = absurd (k refl)
     of (wrongCheck k a) = a
+
+segment-told : (s : Segment) (h : SegmentHeader) → isRefused (toldSegment s h) ≡ false
+segment-told s (Start n c) = refl
+segment-told s (Continuation k) = refl
+
+pub no-frame-refused : NoFrameRefused
+unfolding received
+no-frame-refused side σ f n sized g e = rw (eq-eqb (length (σ .area)) (1469 * length (σ .links)) sized, g) (of (parsed f) e)
+  where
+    of : (p : Parsed) → frameTold p ≡ refused n → told (onFrame side σ f p .0) ≡ refused n
+    of (P.Segment s) e = absurd (false≢true (sym (segment-told s (s .header)) ∙ ap isRefused e))
+    of (P.Acknowledgement id t) e = absurd (false≢true (ap isRefused e))
+    of (P.Open id uuid) e = absurd (false≢true (ap isRefused e))
+    of (P.Ack id) e = absurd (false≢true (ap isRefused e))
+    of (P.Close id reason) e = absurd (false≢true (ap isRefused e))
+    of (P.Refused F.Malformed) e = e
+    of (P.Refused F.UnknownOpcode) e = e
 
 pub receiving-keeps-good : ReceivingKeepsGood
 receiving-keeps-good side σ f o h = of (does side σ f)

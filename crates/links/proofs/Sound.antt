@@ -3,10 +3,10 @@ use Prim.Native.Nat.{ℕ, zero, suc, _+_, _≤_}
 use native.Mathlib.Omega.{arith}
 use mathlib.Core.Bool.{true, false, false≢true}
 use mathlib.Core.List.{List, [], _∷_, _++_, List·Memᴰ, List·Memᴰ·head, Memᴰ·append-left, Memᴰ·append-right}
-use mathlib.Core.Path.{_≡_, refl, sym, ap, _∙_}
+use mathlib.Core.Path.{_≡_, refl, sym, _∙_}
 use lib.Dec.{eqb}
-use lib.ListN.{length, take, drop}
-use lib.Seq.{take-take, length-take-le}
+use lib.ListN.{length, take}
+use lib.Seq.{length-take-le}
 use borrow.Author.Tests.{eqb-true, eqb-false}
 use Rattle.octets.specs.Parts.{write}
 use Rattle.octets.proofs.Parts.{write-length}
@@ -19,14 +19,14 @@ use Rattle.pb_adv.specs.declared.TransactionNumber.{TransactionNumber}
 use Rattle.pb_adv.specs.declared.SegmentHeader.{SegmentHeader}
 use Rattle.pb_adv_writing.specs.Writing.{headerOf}
 use Rattle.links.specs.Marks.{isMarked, withMark, allMarked}
-use Rattle.links.specs.Segments.{OneLink, entered, begun, segmentStep}
+use Rattle.links.specs.Segments.{OneLink, entered, segmentStep}
 use Rattle.links.specs.declared.HalfMessage.{HalfMessage}
 use Rattle.links.specs.declared.HalfReceived.{HalfReceived}
 use Rattle.links.specs.declared.HalfReceived.the-variants as H
 use Rattle.links.specs.declared.Answer.{Answer}
 use Rattle.links.proofs.Marks.{marked-other, none-marked, all-marked-each}
 use Rattle.links.proofs.Deliver.{segmentIn, segment-fits-in, segment-same, segment-other}
-use Rattle.links.proofs.View.{headerAt, IfDelivered, if-delivered, Quiet, Origin, held, begins, New, View, asItWas, new, view}
+use Rattle.links.proofs.View.{headerAt, IfDelivered, if-delivered, Quiet, Origin, held, begins, View, asItWas, new, view}
 
 -- `wire t header d` is the frame that brings a segment to this link; the history is the list of frames that have come
 module _ (wire : TransactionNumber → SegmentHeader → List ℕ → List ℕ) where

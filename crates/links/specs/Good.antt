@@ -1,6 +1,5 @@
 -- A state that isn't bad. "Bad are: two records in use with one Link ID; a free or opening record otherwise not blank; a number outside its
 -- half; a half-received message without segment 0, with none missing, with L or marks out of range, or numbered as the last delivered."
-use Prim.Native.Nat.{ℕ}
 use mathlib.Core.Bool.{Bool, true, false, _&&_, not}
 use mathlib.Core.List.{List, [], _∷_}
 use lib.Dec.{eqb}

@@ -1,6 +1,6 @@
 -- The marks of a half-received message, as the bits of a number: bit k says that segment k is in.
 use Prim.Native.Nat.{ℕ, zero, suc, _/_, _%_, _^_}
-use mathlib.Core.Bool.{Bool, _&&_, not}
+use mathlib.Core.Bool.{Bool, _&&_}
 use lib.Bits.{bitOr}
 use lib.Dec.{eqb}
 

@@ -1,7 +1,7 @@
 -- What is promised of each call of a station, one by one. The proofs are `proofs/Promises.antt`. Demands 2 and 3, over lists of calls, are
 -- `specs/Demand2.antt` and `specs/Demand3.antt`.
-use Prim.Native.Nat.{ℕ, _*_, _-_, _<_}
-use mathlib.Core.Bool.{Bool, true}
+use Prim.Native.Nat.{ℕ, _*_, _-_}
+use mathlib.Core.Bool.{true}
 use mathlib.Core.List.{List}
 use mathlib.Core.Logic.{_≢_}
 use mathlib.Core.Path.{_≡_}
@@ -10,7 +10,7 @@ use Rattle.octets.specs.Numbers.{Octets}
 use Rattle.octets.specs.Parts.{part, write}
 use Rattle.octets.specs.Told.{refused}
 use Rattle.pb_adv.specs.Segments.{segmentPlace}
-use Rattle.pb_adv.specs.Frame.{parsed, indexOf}
+use Rattle.pb_adv.specs.Frame.{parsed, indexOf, told as frameTold}
 use Rattle.pb_adv.specs.declared.Socket.{Socket}
 use Rattle.pb_adv.specs.declared.Segment.{Segment}
 use Rattle.pb_adv.specs.declared.Parsed.{Parsed}
@@ -38,6 +38,12 @@ ReceivingRefusalKeeps =
 
 abbrev pub LocalRefusalKeeps : (List Link → Answer × List Link) → Type 0
 LocalRefusalKeeps call = (ls : List Link) (n : ℕ) → told (call ls .0) ≡ refused n → call ls .1 ≡ ls
+
+-- octets that are no frame are refused with the number that reading them gives, 1 or 2
+abbrev pub NoFrameRefused : Type 0
+NoFrameRefused =
+    (side : Side) (σ : Station) (f : List ℕ) (n : ℕ) → Sized σ → good side (σ .links) ≡ true → frameTold (parsed f) ≡ refused n
+    → told (received side σ f .0) ≡ refused n
 
 -- what remains after refusal 8: the half-received message is cleared and the segment's octets stand at their place; the rest, the last delivered
 -- number among it, is as it was

@@ -1,6 +1,6 @@
 -- What a segment does at its link: "acknowledge again", then 6, 7 and 8, in document 01's order.
-use Prim.Native.Nat.{ℕ, zero, suc}
-use mathlib.Core.Bool.{Bool, true, false, _&&_, cond}
+use Prim.Native.Nat.{ℕ}
+use mathlib.Core.Bool.{_&&_, cond}
 use mathlib.Core.List.{List}
 use lib.Dec.{leb, eqb}
 use lib.ListN.{length, take}
@@ -13,7 +13,6 @@ use Rattle.pb_adv.specs.declared.SegmentHeader.{SegmentHeader}
 use Rattle.pb_adv.specs.declared.SegmentHeader.the-variants.{Start, Continuation}
 use Rattle.links.specs.Marks.{isMarked, withMark, allMarked}
 use Rattle.links.specs.Links.{isLast, withReceived}
-use Rattle.links.specs.declared.LastDelivered.{LastDelivered}
 use Rattle.links.specs.declared.LastDelivered.the-variants as L
 use Rattle.links.specs.declared.HalfMessage.{HalfMessage}
 use Rattle.links.specs.declared.HalfReceived.{HalfReceived}

@@ -1,13 +1,13 @@
 -- The station: link records, as many as there are sockets, and one area with 1,469 octets for each; the receiving call and the local calls.
-use Prim.Native.Nat.{ℕ, zero, suc, _*_, _-_}
+use Prim.Native.Nat.{ℕ, _*_, _-_}
 use mathlib.Core.Bool.{Bool, true, false, _&&_, cond}
 use mathlib.Core.List.{List}
-use lib.Dec.{leb, eqb}
+use lib.Dec.{eqb}
 use lib.ListN.{length, getD, set}
 use Rattle.octets.specs.Parts.{part, write}
 use Rattle.pb_adv.specs.Numbers.{numberAfter, isSocket}
 use Rattle.pb_adv.specs.Segments.{isLength, segN}
-use Rattle.pb_adv.specs.Frame.{parsed, carried}
+use Rattle.pb_adv.specs.Frame.{parsed}
 use Rattle.pb_adv.specs.declared.TransactionNumber.{TransactionNumber}
 use Rattle.pb_adv.specs.declared.Socket.{Socket}
 use Rattle.pb_adv.specs.declared.FrameRefusal.{FrameRefusal}

@@ -1,17 +1,17 @@
 -- Laws of the cut, shown once over the sizes of its pieces, and most of them over any places that go up from 0.
-use Prim.Native.Nat.{ℕ, zero, suc, _+_, _*_, _-_, _/_, _≤_, _<_, min}
+use Prim.Native.Nat.{ℕ, zero, suc, _+_, _*_, _-_, _/_, _≤_, _<_}
 use native.Mathlib.Nat.{div-add-mod', mod-lt, mul-div-le, div-lt-iff-lt-mul}
 use native.Mathlib.Omega.{arith}
 use mathlib.Core.List.{List, [], _∷_, _++_, map, append-nil, append-assoc}
 use mathlib.Core.Logic.{_≢_}
-use mathlib.Core.Path.{_≡_, refl, sym, ap, ap₂, _∙_, subst}
+use mathlib.Core.Path.{_≡_, refl, sym, ap, ap₂, _∙_}
 use lib.Dec.{leb}
-use lib.ListN.{length, take, drop, getD, length-append, length-map, length-drop, List·getD-append}
+use lib.ListN.{length, take, drop, getD, length-append, length-map, List·getD-append}
 use lib.Seq.{take-all, length-take-le, getD-at}
 use borrow.Author.Tests.{leb-true, leb-false}
-use Rattle.octets.specs.Parts.{part, write}
+use Rattle.octets.specs.Parts.{write}
 use Rattle.octets.specs.Cut.{placeOf, lastOf, sizeOf, piece, upTo, cut, joined, placed}
-use Rattle.octets.proofs.Parts.{part-length, part-take, take-part, part-same, part-before, part-after, write-length, write-next, write-start, write-nothing}
+use Rattle.octets.proofs.Parts.{part-length, part-take, take-part, part-same, part-before, part-after, write-next, write-start, write-nothing}
 use Rattle.octets.proofs.Tests.{cases}
 
 -- ---- the numbers from 0 up to n

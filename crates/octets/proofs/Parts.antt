@@ -3,15 +3,14 @@ use Prim.Native.Nat.{ℕ, zero, suc, _+_, _-_, _<_, _≤_}
 use native.Mathlib.Nat.{add-zero, zero-add, suc-sub-suc, zero-sub, sub-zero}
 use native.Mathlib.Numerals.{add-one}
 use native.Mathlib.Omega.{arith}
-use mathlib.Core.Bool.{Bool, true, false, _&&_, cond}
+use mathlib.Core.Bool.{true, _&&_}
 use mathlib.Core.List.{List, [], _∷_, _++_, append-assoc, append-nil}
 use mathlib.Core.Path.{_≡_, refl, sym, ap, _∙_}
-use lib.Dec.{leb, eqb}
-use lib.ListN.{length, take, drop, set, getD, length-append, length-take, length-drop, take-append-drop, drop-of-length-le}
+use lib.Dec.{eqb}
+use lib.ListN.{length, take, drop, set, getD, length-append, length-drop, take-append-drop, drop-of-length-le}
 use lib.Seq.{take-append-le, take-take, take-at, drop-at, drop-drop, take-add, length-take-le, set-at, drop-cons, append-snoc, take-nil, take-length}
 use borrow.Author.Tests.{le-leb, eq-eqb}
-use Rattle.octets.specs.Parts.{part, write, within, copyFits, copied, same, samePart}
-use Rattle.octets.proofs.Tests.{holds-both}
+use Rattle.octets.specs.Parts.{part, write, copied, same, samePart}
 
 pub part-length : (l : List ℕ) (from count : ℕ) → from + count ≤ length l → length (part l from count) ≡ count
 part-length l from count h = length-take-le count (drop from l) (omega (arith, length-drop from l))

@@ -3,7 +3,7 @@ ghost use mathlib.Core.Path.{_≡_};
 ghost use Prim.Native.Nat.{_+_, _<_, _≤_};
 ghost use lib.ListN.{getD, length};
 ghost use Rattle.octets.specs.Numbers.{big16, big32};
-ghost use Rattle.octets.specs.Parts.{part, write, copyFits, copied, same, samePart};
+ghost use Rattle.octets.specs.Parts.{write, copyFits, copied, same, samePart};
 
 // The octet at a place; 0 past the end.
 pub fn octet_at(octets: &[u8], at: usize) -> u8

@@ -6,6 +6,7 @@ use lib.Dec.{leb, eqb}
 use lib.ListN.{length, getD}
 use Rattle.octets.specs.Numbers.{big16, big32, octets16, octets32}
 use Rattle.octets.specs.Parts.{part}
+use Rattle.octets.specs.Told.{Told, refused, answered}
 use Rattle.pb_adv.specs.Segments.{isLength, segN}
 use Rattle.pb_adv.specs.declared.TransactionNumber.{TransactionNumber}
 use Rattle.pb_adv.specs.declared.SegmentHeader.{SegmentHeader}
@@ -93,9 +94,23 @@ headerLength (Start n c) = 9
 headerLength (Continuation k) = 6
 
 -- document 01's number of a refusal
-abbrev pub frameRefusal : FrameRefusal → ℕ
-frameRefusal Malformed = 1
-frameRefusal UnknownOpcode = 2
+abbrev pub refusalNumber : FrameRefusal → ℕ
+refusalNumber Malformed = 1
+refusalNumber UnknownOpcode = 2
+
+-- a segment's kind and values, from its header
+abbrev pub toldSegment : Segment → SegmentHeader → Told
+toldSegment s (Start n c) = answered "Start" (s .id ∷ s .number .0 ∷ n ∷ c ∷ s .from ∷ s .count ∷ [])
+toldSegment s (Continuation k) = answered "Continuation" (s .id ∷ s .number .0 ∷ k ∷ s .from ∷ s .count ∷ [])
+
+-- the frame's kind and values
+abbrev pub told : Parsed → Told
+told (P.Segment s) = toldSegment s (s .header)
+told (P.Acknowledgement id t) = answered "Acknowledgement" (id ∷ t .0 ∷ [])
+told (P.Open id uuid) = answered "Open" (id ∷ uuid ∷ [])
+told (P.Ack id) = answered "Ack" (id ∷ [])
+told (P.Close id reason) = answered "Close" (id ∷ reason ∷ [])
+told (P.Refused r) = refused (refusalNumber r)
 
 -- ---- the octets of each frame
 

@@ -1,15 +1,16 @@
 -- The promises of `specs/Promises.antt`.
-use Prim.Native.Nat.{ℕ, _<_}
+use Prim.Native.Nat.{ℕ, _+_, _<_}
 use native.Mathlib.Omega.{arith}
 use mathlib.Core.Bool.{false}
 use mathlib.Core.List.{List, _∷_, append-nil}
 use mathlib.Core.Path.{_≡_, refl, _∙_, subst}
 use lib.ListN.{length}
+use borrow.Author.Tests.{le-leb, lt-leb, eq-eqb, ne-eqb}
 use Rattle.octets.specs.Numbers.{Octets}
 use Rattle.octets.specs.Parts.{part}
-use Rattle.provisioning.specs.Layout.{sizesOf}
-use Rattle.provisioning.specs.Message.{messageOf, isProhibited}
-use Rattle.provisioning.specs.Promises.{Accepted, messageOctets, FieldsAreOctets, CapabilitiesAt, CapabilitiesInPlace, NothingProhibited}
+use Rattle.provisioning.specs.Layout.{sizesOf, parameterLength}
+use Rattle.provisioning.specs.Message.{typeOf, messageOf, isProhibited, messageRead}
+use Rattle.provisioning.specs.Promises.{Accepted, messageOctets, FieldsAreOctets, CapabilitiesAt, CapabilitiesInPlace, NothingProhibited, Refusals}
 use Rattle.provisioning.specs.declared.Message.{Message}
 use Rattle.provisioning.specs.declared.Message.the-variants as M
 use Rattle.provisioning.proofs.Laws.{Read, by-reading, by-type, parts, layout-all, one-part, two-part}
@@ -78,3 +79,26 @@ placed m = by-type (λ (type : ℕ). Read m type → Placed m (messageOf m type)
 
 pub capabilities-in-place : CapabilitiesInPlace
 capabilities-in-place m c e = subst (Placed m) e (by-reading m (Placed m) (λ r. tt) (placed m _))
+
+-- ---- refusals in their order
+
+pub refusals : (m : List ℕ) → Refusals m
+unfolding messageRead
+refusals m = record {
+  empty = λ e. rw (eq-eqb (length m) 0 e);
+  padding = λ n p. rw (ne-eqb (length m) 0 (λ e. absurd (omega arith)), le-leb 0x40 (typeOf m) p);
+  unknownType = λ n low high. rw (ne-eqb (length m) 0 (λ e. absurd (omega arith)), lt-leb 0x40 (typeOf m) high, le-leb 10 (typeOf m) low);
+  wrongLength = λ n low other. rw (
+    ne-eqb (length m) 0 (λ e. absurd (omega arith)),
+    lt-leb 0x40 (typeOf m) (omega arith),
+    lt-leb 10 (typeOf m) low,
+    ne-eqb (length m) (1 + parameterLength (typeOf m)) other,
+  );
+  prohibited = λ low long p. rw (
+    ne-eqb (length m) 0 (λ e. absurd (omega arith)),
+    lt-leb 0x40 (typeOf m) (omega arith),
+    lt-leb 10 (typeOf m) low,
+    eq-eqb (length m) (1 + parameterLength (typeOf m)) long,
+    p,
+  );
+}

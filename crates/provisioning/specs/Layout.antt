@@ -1,7 +1,7 @@
 -- The layout of provisioning messages: one table, of the sizes of each type's fields behind the type octet.
-use Prim.Native.Nat.{ℕ, zero, suc, _+_, _<_}
+use Prim.Native.Nat.{ℕ, _+_}
 use mathlib.Core.List.{List, [], _∷_}
-use lib.ListN.{length, getD, take}
+use lib.ListN.{getD, take}
 
 -- THE TABLE. "Type and parameter length: 0 Invite 1, 1 Capabilities 11, 2 Start 5, 3 Public Key 64, 4 Input Complete 0, 5 Confirmation 16,
 -- 6 Random 16, 7 Data 33, 8 Complete 0, 9 Failed 1." "Capabilities: elements 1, algorithms 2, key type 1, static type 1, output size 1, output

@@ -1,10 +1,11 @@
 -- What octets say as a provisioning message: its fields where the layout has them, or refusals 41 to 45 in that order.
 use Prim.Native.Nat.{ℕ, _+_}
-use mathlib.Core.Bool.{Bool, true, false, _&&_, _||_, not, cond}
-use mathlib.Core.List.{List}
+use mathlib.Core.Bool.{Bool, false, _||_, not, cond}
+use mathlib.Core.List.{List, [], _∷_, _++_}
 use lib.Dec.{leb, eqb}
 use lib.ListN.{length, getD}
 use Rattle.octets.specs.Numbers.{big16}
+use Rattle.octets.specs.Told.{Told, refused, answered}
 use Rattle.provisioning.specs.Layout.{parameterLength, fieldPlace, fieldSize}
 use Rattle.provisioning.specs.declared.Field.{Field}
 use Rattle.provisioning.specs.declared.Capabilities.{Capabilities}
@@ -114,3 +115,32 @@ refusalNumber R.Padding = 42
 refusalNumber R.UnknownType = 43
 refusalNumber R.WrongLength = 44
 refusalNumber R.Prohibited = 45
+
+-- a long field's values: its place and length
+abbrev pub fieldValues : Field → List ℕ
+fieldValues f = f .place ∷ f .length ∷ []
+
+-- the message's name and its fields, in the order of the layout
+abbrev pub told : Message → Told
+told (M.Invite attention) = answered "Invite" (attention ∷ [])
+told (M.Capabilities c) =
+    answered "Capabilities" (
+    c .elements
+    ∷ c .algorithms
+    ∷ c .«public_key_type»
+    ∷ c .«static_oob_type»
+    ∷ c .«output_oob_size»
+    ∷ c .«output_oob_action»
+    ∷ c .«input_oob_size»
+    ∷ c .«input_oob_action»
+    ∷ []
+    )
+told (M.Start c) = answered "Start" (c .algorithm ∷ c .«public_key» ∷ c .method ∷ c .action ∷ c .size ∷ [])
+told (M.PublicKey x y) = answered "Public Key" (fieldValues x ++ fieldValues y)
+told M.InputComplete = answered "Input Complete" []
+told (M.Confirmation c) = answered "Confirmation" (fieldValues c)
+told (M.Random r) = answered "Random" (fieldValues r)
+told (M.Data d mic) = answered "Data" (fieldValues d ++ fieldValues mic)
+told M.Complete = answered "Complete" []
+told (M.Failed code) = answered "Failed" (code ∷ [])
+told (M.Refused r) = refused (refusalNumber r)

@@ -1,12 +1,15 @@
 -- What is promised of the reader beyond its contract. The proofs are `proofs/Promises.antt`.
-use Prim.Native.Nat.{ℕ, _+_}
-use mathlib.Core.Bool.{false}
+use Prim.Native.Nat.{ℕ, _+_, _≤_, _<_}
+use mathlib.Core.Bool.{true, false}
 use mathlib.Core.List.{List, [], _∷_, _++_}
+use mathlib.Core.Logic.{_≢_}
 use mathlib.Core.Path.{_≡_}
 use lib.ListN.{length, getD}
 use Rattle.octets.specs.Numbers.{Octets, big16, octets16}
 use Rattle.octets.specs.Parts.{part}
-use Rattle.provisioning.specs.Message.{isProhibited, messageRead}
+use Rattle.octets.specs.Told.{refused}
+use Rattle.provisioning.specs.Layout.{parameterLength}
+use Rattle.provisioning.specs.Message.{messageOf, isProhibited, typeOf, messageRead, told}
 use Rattle.provisioning.specs.declared.Field.{Field}
 use Rattle.provisioning.specs.declared.Capabilities.{Capabilities}
 use Rattle.provisioning.specs.declared.Message.{Message}
@@ -71,3 +74,12 @@ CapabilitiesInPlace = (m : List ℕ) (c : Capabilities) → messageRead m ≡ M.
 -- nothing is accepted that document 01 prohibits
 abbrev pub NothingProhibited : Type 0
 NothingProhibited = (m : List ℕ) → isProhibited (messageRead m) ≡ false
+
+-- 41 to 45, each where those before it are not due
+pub record Refusals (m : List ℕ) : Type 0 where
+  pub empty : length m ≡ 0 → told (messageRead m) ≡ refused 41
+  pub padding : 1 ≤ length m → 0x40 ≤ typeOf m → told (messageRead m) ≡ refused 42
+  pub unknownType : 1 ≤ length m → 10 ≤ typeOf m → typeOf m < 0x40 → told (messageRead m) ≡ refused 43
+  pub wrongLength : 1 ≤ length m → typeOf m < 10 → length m ≢ 1 + parameterLength (typeOf m) → told (messageRead m) ≡ refused 44
+  pub prohibited : typeOf m < 10 → length m ≡ 1 + parameterLength (typeOf m) → isProhibited (messageOf m (typeOf m)) ≡ true
+      → told (messageRead m) ≡ refused 45

@@ -1,13 +1,10 @@
 use borrow.Author.Needs.{needs}
 use lib.ListN.{length}
-use mathlib.Core.Path.{sym}
 use native.Mathlib.Nat.{add-sub-cancel-left}
 use native.Mathlib.Omega.{arith}
 use Rattle.octets.specs.Cut.{piece}
 use Rattle.pb_adv.proofs.Laws.{segment-begins}
-use Rattle.pb_adv.specs.Frame.{segmentOctets}
 use Rattle.pb_adv_writing.proofs.Laws.{continuation-frame}
-use Rattle.pb_adv_writing.specs.Writing.{segmentFrame, headerOf}
 use Rattle.pb_adv_writing.proofs.put_continuation.Statement.{statement}
 use Rattle.pb_adv_writing.proofs.put_continuation.Tie as tie
 

@@ -1,8 +1,7 @@
 use Prim.Native.Nat.{_≤_, _-_}
 use borrow.Author.Needs.{needs}
 use lib.ListN.{length}
-use mathlib.Core.Path.{_≡_, refl}
-use native.Mathlib.Omega.{arith}
+use mathlib.Core.Path.{_≡_}
 use Rattle.segment_lines.specs.Progress.{Kept}
 use Rattle.segment_lines.proofs.take_piece.Statement.{statement}
 use Rattle.segment_lines.proofs.take_piece.Tie as tie
