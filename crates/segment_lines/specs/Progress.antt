@@ -1,11 +1,10 @@
--- What the program keeps between characters.
-use Prim.Native.Nat.{_≤_}
+-- What the program keeps between pieces of its input.
+use Prim.Native.Nat.{ℕ, _≤_}
 use mathlib.Core.List.{List}
-use Prim.Native.Nat.{ℕ}
 use lib.ListN.{length}
 use Rattle.segment_lines.specs.declared.Progress.{Progress}
 
--- the line and the texts that wait are within their buffers
+-- the line and the text that waits are within their buffers
 pub record Kept (p : Progress) (line output : List ℕ) : Type 0 where
   pub line-fits : p .held ≤ length line
-  pub output-fits : p .waiting ≤ length output
+  pub output-fits : p .streams .waiting ≤ length output

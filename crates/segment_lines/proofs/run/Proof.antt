@@ -1,6 +1,8 @@
 use borrow.Author.Needs.{needs}
 use lib.ListN.{length}
-use mathlib.Core.Path.{_≡_}
+use mathlib.Core.Path.{_≡_, refl, ap}
+use native.Mathlib.Omega.{arith}
+use Rattle.lines.specs.declared.Streams.{Streams}
 use Rattle.segment_lines.specs.Progress.{Kept}
 use Rattle.segment_lines.proofs.run.Statement.{statement}
 use Rattle.segment_lines.proofs.run.Tie as tie
@@ -12,11 +14,28 @@ Inv-loop input₀ line₀ output₀ progress₀ turns₀ input line output progr
 abbrev μ-loop : tie.MeasureT-loop
 μ-loop input₀ line₀ output₀ progress₀ turns₀ input line output progress turns = turns
 
-loop-holds : tie.Need-loop-holds Inv-loop μ-loop
-loop-holds c = search needs
+start-requires : tie.Need-start-requires Inv-loop μ-loop
+start-requires c κs = search needs
 
-read-piece-requires : tie.Need-read-piece-requires Inv-loop μ-loop
-read-piece-requires c κs = search needs
+loop-holds : tie.Need-loop-holds Inv-loop μ-loop
+loop-holds c =
+    let none = ap (λ (s : Streams). s .waiting) (c .start .ensures) in
+    (refl, refl, refl, record { line-fits = omega arith; output-fits = omega (arith, none) })
+
+next-piece-requires : tie.Need-next-piece-requires Inv-loop μ-loop
+next-piece-requires c κs = search needs
+
+sub-take-piece : tie.Need-sub-take-piece Inv-loop μ-loop
+sub-take-piece c = search needs
+
+part-take-piece-start : tie.Need-part-take-piece-start Inv-loop μ-loop
+part-take-piece-start c = search needs
+
+part-take-piece-end : tie.Need-part-take-piece-end Inv-loop μ-loop
+part-take-piece-end c = search needs
+
+take-piece-requires : tie.Need-take-piece-requires Inv-loop μ-loop
+take-piece-requires c κs = search needs
 
 sub-turns : tie.Need-sub-turns Inv-loop μ-loop
 sub-turns c = search needs
@@ -54,8 +73,13 @@ run-spec =
     (tie.spec
     Inv-loop
     μ-loop
+    start-requires
     loop-holds
-    read-piece-requires
+    next-piece-requires
+    sub-take-piece
+    part-take-piece-start
+    part-take-piece-end
+    take-piece-requires
     sub-turns
     loop-less
     loop-again

@@ -1,0 +1,47 @@
+use borrow.Author.Needs.{needs}
+use Prim.Native.Nat.{_≤_, _-_}
+use Rattle.lines.proofs.find_newline.Statement.{statement}
+use Rattle.lines.proofs.find_newline.Tie as tie
+use Rattle.lines.proofs.find_newline.Reads as reads
+use Rattle.lines.proofs.find_newline.Lts as lts
+
+abbrev Inv-loop : tie.InvT-loop
+Inv-loop input from filled at₀ at = (from ≤ at) × (at ≤ filled)
+
+abbrev μ-loop : tie.MeasureT-loop
+μ-loop input from filled at₀ at = filled - at
+
+loop-holds : tie.Need-loop-holds Inv-loop μ-loop
+loop-holds c = search needs
+
+shared-slice-read-if1 : tie.Need-shared-slice-read-if1 Inv-loop μ-loop
+shared-slice-read-if1 c = search needs
+
+returns : tie.Need-returns Inv-loop μ-loop
+returns c = search needs
+
+add-at : tie.Need-add-at Inv-loop μ-loop
+add-at c = search needs
+
+loop-less : tie.Need-loop-less Inv-loop μ-loop
+loop-less c = search needs
+
+loop-again : tie.Need-loop-again Inv-loop μ-loop
+loop-again c = search needs
+
+returns-2 : tie.Need-returns-2 Inv-loop μ-loop
+returns-2 c = search needs
+
+pub find-newline-spec : {M : Type 1} → statement M
+find-newline-spec =
+    tie.close
+    (tie.spec
+    Inv-loop
+    μ-loop
+    loop-holds
+    shared-slice-read-if1
+    returns
+    add-at
+    loop-less
+    loop-again
+    returns-2)

@@ -1,0 +1,176 @@
+// Lines of text from standard input, and text to standard output, through buffers that the program lends. A line comes in pieces, since no
+// buffer holds every line; the text that waits is written out before more input is awaited.
+use libc::STDIN_FILENO;
+use libc::STDOUT_FILENO;
+ghost use mathlib.Core.Path.{_≡_};
+ghost use mathlib.Core.Bool.{true, false};
+ghost use Prim.Native.Nat.{_≤_};
+ghost use lib.ListN.{length};
+ghost use Rattle.lines.specs.Streams.{Within, heldAfter, heldLine};
+
+// How far a program has come in its input and its output.
+pub struct Streams {
+    // The piece found last: from one place of the input buffer to another, the newline left out.
+    pub from: usize,
+    pub to: usize,
+    // Whether the line ends with it.
+    pub ends: bool,
+    // How many octets of input the buffer has.
+    pub filled: usize,
+    // Whether a piece was found: not at the end of input, nor where standard output takes no more.
+    pub found: bool,
+    // Octets of text that wait at the start of the output buffer.
+    pub waiting: usize,
+    // Whether standard output has taken all so far.
+    pub taken: bool,
+}
+
+// Nothing read and nothing waiting.
+pub fn start() -> Streams
+    ensures { λ r. ⌜ r ≡ record { from = 0; to = 0; ends = false; filled = 0; found = true; waiting = 0; taken = true } ⌝ }
+{
+    Streams {
+        from: 0,
+        to: 0,
+        ends: false,
+        filled: 0,
+        found: true,
+        waiting: 0,
+        taken: true,
+    }
+}
+
+// The place of the first newline from a place on; the end where there is none.
+fn find_newline(input: &[u8], from: usize, filled: usize) -> usize
+    requires { ⌜ (from ≤ filled) × (filled ≤ length (now input)) ⌝ }
+    ensures { λ r. ⌜ (from ≤ r) × (r ≤ filled) ⌝ }
+{
+    let mut at = from;
+    while at < filled {
+        if input[at] == b'\n' {
+            return at;
+        }
+        at += 1;
+    }
+    filled
+}
+
+// The piece from a place on.
+fn piece_from(streams: Streams, input: &[u8], from: usize, filled: usize) -> Streams
+    requires { ⌜ (from ≤ filled) × (filled ≤ length (now input)) ⌝ }
+    ensures { λ r. ⌜ (r .from ≤ r .to) × (r .to ≤ length (now (input .entry))) × (r .waiting ≡ streams .waiting) ⌝ }
+{
+    let to = find_newline(input, from, filled);
+    let mut after = streams;
+    after.from = from;
+    after.to = to;
+    after.ends = to < filled;
+    after.filled = filled;
+    after.found = from < filled;
+    after
+}
+
+// Writes out the text that waits.
+pub fn flush(streams: Streams, output: &[u8]) -> Streams
+    ensures { λ r. ⌜ r .waiting ≡ 0 ⌝ }
+{
+    let waiting = streams.waiting;
+    let mut after = streams;
+    after.waiting = 0;
+    if output.len() < waiting {
+        return after;
+    }
+    if after.taken {
+        after.taken = io::write_all(STDOUT_FILENO, &output[..waiting]);
+    }
+    after
+}
+
+// Where the piece after the last one begins.
+fn next_place(streams: Streams) -> usize {
+    if streams.ends {
+        if streams.to < streams.filled {
+            return streams.to + 1;
+        }
+    }
+    streams.to
+}
+
+// Writes out what waits, and reads on.
+fn read_more(streams: Streams, input: &mut [u8], output: &[u8]) -> Streams
+    ensures { λ r. ⌜ Within r (now (input .exit)) (now (output .entry)) ⌝ }
+{
+    let flushed = flush(streams, output);
+    if flushed.taken {
+        let got = libc::read(STDIN_FILENO, input);
+        let filled = io::count(got, input);
+        return piece_from(flushed, input, 0, filled);
+    }
+    piece_from(flushed, input, 0, 0)
+}
+
+// The next piece of the input: of the line begun, or of the next one where the last piece ended its line.
+pub fn next_piece(streams: Streams, input: &mut [u8], output: &[u8]) -> Streams
+    ensures { λ r. ⌜ Within r (now (input .exit)) (now (output .entry)) ⌝ }
+{
+    let from = next_place(streams);
+    let filled = streams.filled;
+    if input.len() < filled {
+        return read_more(streams, input, output);
+    }
+    if output.len() < streams.waiting {
+        return read_more(streams, input, output);
+    }
+    if filled <= from {
+        return read_more(streams, input, output);
+    }
+    piece_from(streams, input, from, filled)
+}
+
+// Room for so much more text in the output: where there is less, what waits is written out.
+pub fn make_room(streams: Streams, output: &[u8], room: usize) -> Streams
+    ensures { λ r. ⌜ r .waiting ≤ length (now (output .entry)) ⌝ }
+{
+    let waiting = streams.waiting;
+    if output.len() < waiting {
+        return flush(streams, output);
+    }
+    if output.len() - waiting < room {
+        return flush(streams, output);
+    }
+    streams
+}
+
+// So much more text waits, which the program has put behind what waited.
+pub fn add_waiting(streams: Streams, output: &[u8], count: usize) -> Streams
+    ensures { λ r. ⌜ r .waiting ≤ length (now (output .entry)) ⌝ }
+{
+    let waiting = streams.waiting;
+    if output.len() < waiting {
+        return flush(streams, output);
+    }
+    if output.len() - waiting < count {
+        return streams;
+    }
+    let mut after = streams;
+    after.waiting = waiting + count;
+    after
+}
+
+// Holds a piece more of a line, as much as fits; how much the buffer then holds.
+pub fn hold(line: &mut [u8], held: usize, piece: &[u8]) -> usize
+    ensures { λ r. ⌜ (r ≡ heldAfter (now (line .entry)) held (now (piece .entry)))
+        × (now (line .exit) ≡ heldLine (now (line .entry)) held (now (piece .entry)))
+        × (r ≤ length (now (line .entry))) ⌝ }
+{
+    if line.len() <= held {
+        return line.len();
+    }
+    let room = line.len() - held;
+    if piece.len() < room {
+        octets::copy(line, held, piece, 0, piece.len());
+        return held + piece.len();
+    }
+    octets::copy(line, held, piece, 0, room);
+    held + room
+}
