@@ -12,19 +12,20 @@ use borrow.Author.Tests.{leb-true, leb-false, eqb-true, le-leb, lt-leb}
 use Rattle.octets.specs.Parts.{write, copyFits, copied}
 use Rattle.octets.specs.Cut.{upTo, joined}
 use Rattle.octets.specs.Told.{refused}
+use Rattle.octets.specs.Writing.{written, outputAfter}
+use Rattle.octets.specs.declared.Written.the-variants.{Count, WrongArgument}
 use Rattle.octets.proofs.Parts.{write-octet, write-next, write-front}
 use Rattle.octets.proofs.Cut.{joined-up-to}
 use Rattle.octets.proofs.Tests.{cases, both-hold, holds-both}
+use Rattle.octets.proofs.Writing.{written-fits, wrote}
 use Rattle.hex.specs.Hex.{isHexadecimal, octetsOf, textOf, decodedOf, decodedOutput, encodedOutput}
 use Rattle.hex.specs.declared.Decoded.the-variants.{Octets}
 use Rattle.hex.proofs.Laws.{length-text, length-octets}
 use Rattle.pb_adv.specs.Segments.{segN, segmentPlace}
-use Rattle.pb_adv_writing.specs.Writing.{segmentFrame, headerOf, isSegment, written, outputAfter, SegmentAsked}
-use Rattle.pb_adv_writing.specs.declared.Written.the-variants.{Frame, WrongArgument}
+use Rattle.pb_adv_writing.specs.Writing.{segmentFrame, headerOf, isSegment, SegmentAsked}
 use Rattle.pb_adv.specs.declared.TransactionNumber.{TransactionNumber}
 use Rattle.pb_adv.proofs.Laws.{segN-small, segN-enough, segment-begins}
-use Rattle.pb_adv_writing.proofs.Laws.{frame-long, written-fits}
-use Rattle.pb_adv_writing.proofs.Promises.{wrote}
+use Rattle.pb_adv_writing.proofs.Laws.{frame-long}
 use Rattle.hex_lines.specs.Lines.{isMessage, frameLine, messageText, refusedText, lineText, told, textWritten, textOutput, lineWritten, lineOutput}
 use Rattle.hex_lines.specs.Steps.{segmentLine, firstLines}
 use Rattle.hex_lines.specs.declared.LineWritten.the-variants.{Text, OutputTooShort}
@@ -116,13 +117,13 @@ module _ (t : TransactionNumber) {m : List ℕ} {k : ℕ} (asked : SegmentAsked 
   right : isSegment m k ≡ true
   right = holds-both (holds-both (le-leb 1 (length m) (asked .some-octets)) (le-leb (length m) 1469 (asked .few-octets))) (le-leb k (segN (length m)) (asked .index))
 
-  frame-written : written (isSegment m k) (segmentFrame 1 t m k) frameRoom ≡ Frame (length (segmentFrame 1 t m k))
+  frame-written : written (isSegment m k) (segmentFrame 1 t m k) frameRoom ≡ Count (length (segmentFrame 1 t m k))
   frame-written = rw right (written-fits (segmentFrame 1 t m k) frameRoom (frame-small t m k))
 
   pub frame-some : written (isSegment m k) (segmentFrame 1 t m k) frameRoom ≡ WrongArgument → ⊥
   frame-some e = let z : _≡_ {A = ℕ} 0 1 = cc frame-written in omega arith
 
-  pub frame-count : {n : ℕ} → written (isSegment m k) (segmentFrame 1 t m k) frameRoom ≡ Frame n → n ≡ length (segmentFrame 1 t m k)
+  pub frame-count : {n : ℕ} → written (isSegment m k) (segmentFrame 1 t m k) frameRoom ≡ Count n → n ≡ length (segmentFrame 1 t m k)
   frame-count e = cc frame-written
 
   pub frame-front : take (length (segmentFrame 1 t m k)) (outputAfter (isSegment m k) (segmentFrame 1 t m k) frameRoom) ≡ segmentFrame 1 t m k

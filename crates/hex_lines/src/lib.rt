@@ -1,7 +1,7 @@
 // One line of the line program: digits in, frames as text out, the next number back.
 use hex::Decoded;
+use octets::Written;
 use pb_adv::TransactionNumber;
-use pb_adv_writing::Written;
 ghost use mathlib.Core.Path.{_≡_};
 ghost use Prim.Native.Nat.{_+_, _≤_};
 ghost use lib.ListN.{length};
@@ -37,7 +37,7 @@ fn put_line(
         × (now (output .exit) ≡ write (now (output .entry)) at (segmentLine number (now (message .entry)) index)) ⌝ }
 {
     let mut frame = [0u8; 29];
-    let Written::Frame(n) = pb_adv_writing::write_segment(1, number, message, index, &mut frame)
+    let Written::Count(n) = pb_adv_writing::write_segment(1, number, message, index, &mut frame)
     else {
         // Never: there is such a segment, and no frame is longer than 29 octets.
         return at;

@@ -2,3 +2,5 @@ pub mod Numbers
 pub mod Parts
 pub mod Cut
 pub mod Told
+pub mod Writing
+pub mod Promises

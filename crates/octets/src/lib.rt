@@ -1,9 +1,17 @@
-// Lists of octets: big-endian numbers, and copies of parts.
+// Lists of octets: big-endian numbers, copies of parts, and the answer of a writer.
 ghost use mathlib.Core.Path.{_≡_};
 ghost use Prim.Native.Nat.{_+_, _<_, _≤_};
 ghost use lib.ListN.{getD, length};
 ghost use Rattle.octets.specs.Numbers.{big16, big32};
 ghost use Rattle.octets.specs.Parts.{write, copyFits, copied, same, samePart};
+
+// The answer of a writer to a lent output.
+pub enum Written {
+    // How many octets stand at the start of the output.
+    Count(usize),
+    // Refusal 11: an argument is wrong, or the output is too short. The output is as it was.
+    WrongArgument,
+}
 
 // The octet at a place; 0 past the end.
 pub fn octet_at(octets: &[u8], at: usize) -> u8

@@ -1,34 +1,17 @@
--- Laws of the writers and of the frames of a message.
-use Prim.Native.Nat.{ℕ, zero, suc, _+_, _*_, _≤_, _<_}
+-- Laws of the frames of a message.
+use Prim.Native.Nat.{ℕ, zero, suc, _+_, _*_, _≤_}
 use native.Mathlib.Omega.{arith}
 use mathlib.Core.Bool.{true}
 use mathlib.Core.List.{List}
 use mathlib.Core.Path.{_≡_, refl}
 use lib.ListN.{length}
-use borrow.Author.Tests.{leb-true, le-leb, lt-leb}
-use Rattle.octets.specs.Parts.{write}
+use borrow.Author.Tests.{leb-true}
 use Rattle.octets.proofs.Tests.{both-hold}
 use Rattle.pb_adv.specs.Segments.{segN, segmentLength, segment}
 use Rattle.pb_adv.specs.Frame.{headerLength, frameOctets, segmentOctets}
 use Rattle.pb_adv.specs.declared.TransactionNumber.{TransactionNumber}
 use Rattle.pb_adv.proofs.Laws.{segment-long}
-use Rattle.pb_adv_writing.specs.Writing.{written, outputAfter, headerOf, segmentFrame, isSegment, SegmentAsked}
-use Rattle.pb_adv_writing.specs.declared.Written.the-variants.{Frame, WrongArgument}
-
--- a writer whose frame fits
-module _ (f output : List ℕ) (fits : length f ≤ length output) where
-  pub written-fits : written true f output ≡ Frame (length f)
-  unfolding written
-  written-fits = rw (le-leb (length f) (length output) fits)
-
-  pub output-fits : outputAfter true f output ≡ write output 0 f
-  unfolding outputAfter
-  output-fits = rw (le-leb (length f) (length output) fits)
-
--- a writer whose frame is longer than the output
-pub output-short : (f output : List ℕ) → length output < length f → (WrongArgument ≡ written true f output) × (output ≡ outputAfter true f output)
-unfolding written outputAfter
-output-short f output h = rw (lt-leb (length f) (length output) h) (refl, refl)
+use Rattle.pb_adv_writing.specs.Writing.{headerOf, segmentFrame, isSegment, SegmentAsked}
 
 -- the frame of a further segment
 pub continuation-frame : (id : ℕ) (t : TransactionNumber) (m : List ℕ) (k : ℕ) → 1 ≤ k → segmentFrame id t m k ≡ frameOctets id (t .0) (4 * k + 2) (segment m k)

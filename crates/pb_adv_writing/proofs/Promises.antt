@@ -1,19 +1,18 @@
 -- The promises of `specs/Promises.antt`.
 use Prim.Native.Nat.{ℕ, zero, suc, _≤_}
-use native.Mathlib.Nat.{zero-add}
 use native.Mathlib.Omega.{arith}
 use mathlib.Core.Bool.{Bool, true}
 use mathlib.Core.List.{List, [], _∷_, _++_, map}
 use mathlib.Core.Path.{_≡_, refl, ap, _∙_}
 use lib.Dec.{leb}
-use lib.ListN.{length, take}
+use lib.ListN.{length}
 use lib.Seq.{take-all}
 use borrow.Author.Tests.{leb-true, eqb-true}
 use Rattle.octets.specs.Parts.{write}
 use Rattle.octets.specs.Cut.{upTo, placed}
-use Rattle.octets.proofs.Parts.{write-front}
+use Rattle.octets.proofs.Writing.{wrote}
 use Rattle.octets.proofs.Cut.{placed-cut, map-up-to}
-use Rattle.octets.proofs.Tests.{cases, both-hold}
+use Rattle.octets.proofs.Tests.{both-hold}
 use Rattle.pb_adv.specs.Segments.{segN, segmentPlace, segment}
 use Rattle.pb_adv.specs.Frame.{parsed, carried, indexOf, acknowledgementOctets, openOctets, ackOctets, closeOctets, controlOf}
 use Rattle.pb_adv.specs.Promises.{segmentSaid, Fits}
@@ -21,30 +20,13 @@ use Rattle.pb_adv.specs.declared.TransactionNumber.{TransactionNumber}
 use Rattle.pb_adv.specs.declared.Parsed.{Parsed}
 use Rattle.pb_adv.proofs.Laws.{segment-begins, segN-small, segment-long}
 use Rattle.pb_adv.proofs.Promises.{id-back, by-kind, parsed-segment, carried-segment}
-use Rattle.pb_adv_writing.specs.Writing.{isWritten, written, outputAfter, headerOf, segmentFrame, isSegment, isUuid, SegmentAsked}
-use Rattle.pb_adv_writing.specs.Promises.{RefusalKeeps, GivesBack, WritersGiveBack, putSegment, putFrames, CutJoins}
-use Rattle.pb_adv_writing.specs.declared.Written.the-variants.{Frame}
+use Rattle.pb_adv_writing.specs.Writing.{headerOf, segmentFrame, isSegment, isUuid, SegmentAsked}
+use Rattle.pb_adv_writing.specs.Promises.{GivesBack, WritersGiveBack, putSegment, putFrames, CutJoins}
 use Rattle.pb_adv_writing.proofs.Laws.{segment-asked}
 
 -- ---- writers
 
-pub refusal-keeps : RefusalKeeps
-unfolding written outputAfter
-refusal-keeps right frame output n =
-    cases (isWritten right frame output) (λ e. rw e (λ q. let z : _≡_ {A = ℕ} 0 1 = cc in absurd (omega arith))) (λ e. rw e (λ q. refl))
-
--- a frame that was written: its arguments were right, and it stands at the start of the output
-pub wrote : (right : Bool) (frame output : List ℕ) (n : ℕ) → written right frame output ≡ Frame n → (right ≡ true) × (take n (outputAfter right frame output) ≡ frame)
-unfolding written outputAfter
-wrote right frame output n =
-    cases (isWritten right frame output)
-    (λ e. rw e
-    (λ q. let b = both-hold {a = right} {b = leb (length frame) (length output)} e in
-    let k : length frame ≡ n = cc in
-    (b .0, rw (← k) (rw zero-add at (write-front output 0 frame (rw zero-add (leb-true (length frame) (length output) (b .1))))))))
-    (λ e. rw e (λ q. let z : _≡_ {A = ℕ} 0 1 = cc in absurd (omega arith)))
-
--- so a writer gives back what its frame says, if its arguments are right
+-- a writer gives back what its frame says, if its arguments are right
 gives-back : (right : Bool) (frame output : List ℕ) (p : Parsed) (d : List ℕ) → (right ≡ true → (parsed frame ≡ p) × (carried frame p ≡ d)) → GivesBack right frame output p d
 gives-back right frame output p d h n e =
     let w = wrote right frame output n e in

@@ -5,24 +5,20 @@ use mathlib.Core.List.{List, [], _∷_, _++_}
 use mathlib.Core.Path.{_≡_}
 use lib.ListN.{length, take, drop}
 use Rattle.octets.specs.Parts.{part, write}
-use Rattle.octets.specs.Told.{refused}
+use Rattle.octets.specs.Writing.{written, outputAfter}
+use Rattle.octets.specs.declared.Written.the-variants.{Count}
 use Rattle.pb_adv.specs.Segments.{isLength, segmentPlace, segment}
 use Rattle.pb_adv.specs.Frame.{parsed, carried, indexOf, acknowledgementOctets, openOctets, ackOctets, closeOctets}
 use Rattle.pb_adv.specs.Promises.{segmentSaid}
 use Rattle.pb_adv.specs.declared.TransactionNumber.{TransactionNumber}
 use Rattle.pb_adv.specs.declared.Parsed.{Parsed}
 use Rattle.pb_adv.specs.declared.Parsed.the-variants as P
-use Rattle.pb_adv_writing.specs.Writing.{told, written, outputAfter, headerOf, segmentFrame, isSegment, messageFrames, isUuid}
-use Rattle.pb_adv_writing.specs.declared.Written.the-variants.{Frame}
-
--- a refused writer leaves its output as it was
-abbrev pub RefusalKeeps : Type 0
-RefusalKeeps = (right : Bool) (frame output : List ℕ) (n : ℕ) → told (written right frame output) ≡ refused n → outputAfter right frame output ≡ output
+use Rattle.pb_adv_writing.specs.Writing.{headerOf, segmentFrame, isSegment, messageFrames, isUuid}
 
 -- parsing what a writer wrote gives a frame back, with the octets that it carries
 abbrev pub GivesBack : Bool → List ℕ → List ℕ → Parsed → List ℕ → Type 0
 GivesBack right frame output p d =
-    (n : ℕ) → written right frame output ≡ Frame n
+    (n : ℕ) → written right frame output ≡ Count n
     → (parsed (take n (outputAfter right frame output)) ≡ p) × (carried (take n (outputAfter right frame output)) p ≡ d)
 
 -- so for each of the five writers

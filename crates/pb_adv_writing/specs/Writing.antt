@@ -1,39 +1,16 @@
--- The writers of frames: they "take any number octet, write the frame and no octet after it, and give its length".
+-- What the writers of frames write: they "take any number octet, write the frame and no octet after it, and give its length".
 use Prim.Native.Nat.{ℕ, zero, suc, _≤_}
-use mathlib.Core.Bool.{Bool, _&&_, cond}
-use mathlib.Core.List.{List, [], _∷_, map}
+use mathlib.Core.Bool.{Bool, _&&_}
+use mathlib.Core.List.{List, map}
 use lib.Dec.{leb, eqb}
 use lib.ListN.{length}
-use Rattle.octets.specs.Parts.{write}
 use Rattle.octets.specs.Cut.{upTo}
-use Rattle.octets.specs.Told.{Told, refused, answered}
 use Rattle.fcs.specs.Fcs.{checkOctet}
 use Rattle.pb_adv.specs.Segments.{isLength, segN, segment}
 use Rattle.pb_adv.specs.Frame.{segmentOctets}
 use Rattle.pb_adv.specs.declared.TransactionNumber.{TransactionNumber}
 use Rattle.pb_adv.specs.declared.SegmentHeader.{SegmentHeader}
 use Rattle.pb_adv.specs.declared.SegmentHeader.the-variants.{Start, Continuation}
-use Rattle.pb_adv_writing.specs.declared.Written.{Written}
-use Rattle.pb_adv_writing.specs.declared.Written.the-variants.{Frame, WrongArgument}
-
--- document 01's number and values of an answer
-abbrev pub told : Written → Told
-told (Frame n) = answered "written" (n ∷ [])
-told WrongArgument = refused 11
-
--- whether a frame is written: its arguments are right, and the output is no shorter than it
-abbrev pub isWritten : Bool → List ℕ → List ℕ → Bool
-isWritten right frame output = right && leb (length frame) (length output)
-
--- the answer of a writer: the frame's length, or refusal 11
-unfoldable pub written : Bool → List ℕ → List ℕ → Written
-written right frame output = cond (isWritten right frame output) (Frame (length frame)) WrongArgument
-
--- the output after a writer: the frame at its start and nothing after it changed, or as it was
-unfoldable pub outputAfter : Bool → List ℕ → List ℕ → List ℕ
-outputAfter right frame output = cond (isWritten right frame output) (write output 0 frame) output
-
--- ---- the cut of a message into frames
 
 -- what stands before segment k of a message
 unfoldable pub headerOf : List ℕ → ℕ → SegmentHeader

@@ -1,4 +1,5 @@
 // The five writers of PB-ADV frames, and the cut of a message into frames.
+use octets::Written;
 use pb_adv::TransactionNumber;
 use pb_adv::last_segment;
 use pb_adv::segment_length;
@@ -9,16 +10,9 @@ ghost use mathlib.Core.List.{[], _++_};
 ghost use Prim.Native.Nat.{_≤_};
 ghost use lib.ListN.{length};
 ghost use Rattle.octets.specs.Parts.{write};
+ghost use Rattle.octets.specs.Writing.{written, outputAfter};
 ghost use Rattle.pb_adv.specs.Frame.{frameOctets, acknowledgementOctets, openOctets, ackOctets, closeOctets};
-ghost use Rattle.pb_adv_writing.specs.Writing.{written, outputAfter, isSegment, segmentFrame, isUuid, SegmentAsked};
-
-// The answer of a writer.
-pub enum Written {
-    // The length of the frame, which stands at the start of the output.
-    Frame(usize),
-    // Refusal 11: a wrong length, an index above SegN, or an output too short. The output is as it was.
-    WrongArgument,
-}
+ghost use Rattle.pb_adv_writing.specs.Writing.{isSegment, segmentFrame, isUuid, SegmentAsked};
 
 // Link ID, transaction number and the octet of the kind, at the start of the output.
 fn put_head(output: &mut [u8], id: u32, number: u8, kind: u8)
@@ -58,7 +52,7 @@ fn put_frame(
     put_head(output, id, number, kind);
     octets::copy(output, 6, fields, 0, fields.len());
     octets::copy(output, at, octets, 0, octets.len());
-    Written::Frame(at + octets.len())
+    Written::Count(at + octets.len())
 }
 
 // Writes an acknowledgement of a transaction number.

@@ -3,9 +3,9 @@
 use libc::STDOUT_FILENO;
 use links::Answer;
 use links::Link;
+use octets::Written;
 use pb_adv::Socket;
 use pb_adv::TransactionNumber;
-use pb_adv_writing::Written;
 
 // How often each answer was given.
 struct Tally {
@@ -75,7 +75,7 @@ fn open_link(tray: Tray, area: &mut [u8], socket: u8) -> Tray {
         tally: tally,
     };
     let mut frame = [0u8; 29];
-    let Written::Frame(n) = pb_adv_writing::write_ack(id_of(socket), &mut frame) else {
+    let Written::Count(n) = pb_adv_writing::write_ack(id_of(socket), &mut frame) else {
         return opening;
     };
     bring(opening, area, &frame, n)
@@ -98,7 +98,7 @@ fn bring_twice(
     if 8 < socket {
         return tray;
     }
-    let Written::Frame(n) = pb_adv_writing::write_segment(
+    let Written::Count(n) = pb_adv_writing::write_segment(
         id_of(socket),
         number,
         &messages[from..from + 1469],

@@ -5,9 +5,9 @@ use mathlib.Core.List.{[], _++_}
 use mathlib.Core.Path.{_≡_, sym, ap, _∙_}
 use native.Mathlib.Omega.{arith}
 use Rattle.octets.proofs.Parts.{copied-next}
+use Rattle.octets.proofs.Writing.{written-fits, output-fits, output-short}
+use Rattle.octets.specs.declared.Written.the-variants.{Count}
 use Rattle.pb_adv.specs.Frame.{frameOctets}
-use Rattle.pb_adv_writing.proofs.Laws.{written-fits, output-fits, output-short}
-use Rattle.pb_adv_writing.specs.declared.Written.the-variants.{Frame}
 use Rattle.pb_adv_writing.proofs.put_frame.Statement.{statement}
 use Rattle.pb_adv_writing.proofs.put_frame.Tie as tie
 
@@ -62,7 +62,7 @@ returns-4 c =
     let n = length-append x y in
     let fits : 6 + length x + length y ≤ length out = omega arith in
     let long : length (frameOctets (a .id) (a .number) (a .kind) (x ++ y)) ≡ 6 + length x + length y = omega arith in (
-      ap Frame (sym long) ∙ sym (written-fits _ out (omega arith)),
+      ap Count (sym long) ∙ sym (written-fits _ out (omega arith)),
       c .before .before .copy2 .ensures .1
           ∙ rw (b .copy .ensures .1, h .put-head .ensures)
           (rw (copied-next out 0 head x 6 (omega arith) (omega arith), copied-next out 0 (head ++ x) y (6 + length x) (omega arith) (omega arith))

@@ -3,7 +3,7 @@ use borrow.Author.Tests.{eq-eqb}
 use mathlib.Core.List.{append-nil}
 use Rattle.octets.proofs.Tests.{tests}
 use Rattle.pb_adv.specs.Frame.{openOctets}
-use Rattle.pb_adv_writing.specs.Writing.{written, outputAfter}
+use Rattle.octets.specs.Writing.{written, outputAfter}
 use Rattle.pb_adv_writing.proofs.write_open.Statement.{statement}
 use Rattle.pb_adv_writing.proofs.write_open.Tie as tie
 

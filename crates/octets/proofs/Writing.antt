@@ -1,0 +1,47 @@
+-- Laws of writers to a lent output, and the promise of `specs/Promises.antt`.
+use Prim.Native.Nat.{ℕ, _≤_, _<_}
+use native.Mathlib.Nat.{zero-add}
+use native.Mathlib.Omega.{arith}
+use mathlib.Core.Bool.{Bool, true}
+use mathlib.Core.List.{List}
+use mathlib.Core.Path.{_≡_, refl}
+use lib.Dec.{leb}
+use lib.ListN.{length, take}
+use borrow.Author.Tests.{leb-true, le-leb, lt-leb}
+use Rattle.octets.specs.Parts.{write}
+use Rattle.octets.specs.Writing.{isWritten, written, outputAfter}
+use Rattle.octets.specs.Promises.{RefusalKeeps}
+use Rattle.octets.specs.declared.Written.the-variants.{Count, WrongArgument}
+use Rattle.octets.proofs.Parts.{write-front}
+use Rattle.octets.proofs.Tests.{cases, both-hold}
+
+-- a writer whose octets fit
+module _ (d output : List ℕ) (fits : length d ≤ length output) where
+  pub written-fits : written true d output ≡ Count (length d)
+  unfolding written
+  written-fits = rw (le-leb (length d) (length output) fits)
+
+  pub output-fits : outputAfter true d output ≡ write output 0 d
+  unfolding outputAfter
+  output-fits = rw (le-leb (length d) (length output) fits)
+
+-- a writer with more octets than the output
+pub output-short : (d output : List ℕ) → length output < length d → (WrongArgument ≡ written true d output) × (output ≡ outputAfter true d output)
+unfolding written outputAfter
+output-short d output h = rw (lt-leb (length d) (length output) h) (refl, refl)
+
+pub refusal-keeps : RefusalKeeps
+unfolding written outputAfter
+refusal-keeps right d output n =
+    cases (isWritten right d output) (λ e. rw e (λ q. let z : _≡_ {A = ℕ} 0 1 = cc in absurd (omega arith))) (λ e. rw e (λ q. refl))
+
+-- octets that were written: the arguments were right, and they stand at the start of the output
+pub wrote : (right : Bool) (d output : List ℕ) (n : ℕ) → written right d output ≡ Count n → (right ≡ true) × (take n (outputAfter right d output) ≡ d)
+unfolding written outputAfter
+wrote right d output n =
+    cases (isWritten right d output)
+    (λ e. rw e
+    (λ q. let b = both-hold {a = right} {b = leb (length d) (length output)} e in
+    let k : length d ≡ n = cc in
+    (b .0, rw (← k) (rw zero-add at (write-front output 0 d (rw zero-add (leb-true (length d) (length output) (b .1))))))))
+    (λ e. rw e (λ q. let z : _≡_ {A = ℕ} 0 1 = cc in absurd (omega arith)))
