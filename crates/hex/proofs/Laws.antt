@@ -1,5 +1,5 @@
 -- Laws of hexadecimal text: its length, each octet and each digit by its place, and that reading takes back what writing wrote.
-use Prim.Native.Nat.{ℕ, zero, suc, _+_, _*_, _/_, _%_, _<_, _≤_}
+use Prim.Native.Nat.{ℕ, zero, suc, _+_, _*_, _-_, _/_, _%_, _<_, _≤_}
 use native.Mathlib.Numerals.{add-one}
 use native.Mathlib.Nat.{zero-add}
 use native.Mathlib.Omega.{arith}
@@ -13,7 +13,7 @@ use borrow.Author.Tests.{le-leb, lt-leb, eq-eqb, leb-true, leb-false}
 use Rattle.octets.specs.Numbers.{Octets}
 use Rattle.octets.specs.Parts.{write}
 use Rattle.octets.proofs.Tests.{cases, both-hold, holds-both}
-use Rattle.hex.specs.Hex.{valueOf, digitOf, allDigits, isHexadecimal, octetsOf, textOf}
+use Rattle.hex.specs.Hex.{valueOf, digitOf, allDigits, isHexadecimal, octetsOf, textOf, encodedOutput}
 
 -- ---- lengths
 
@@ -79,6 +79,11 @@ text-turn o l at j h fits =
 pub written : (o : List ℕ) (at : ℕ) (d : List ℕ) (n : ℕ) → n ≡ length d → paste o at d n ≡ write o at d
 unfolding write
 written o at d n e = rw (e, take-length d)
+
+-- digits that fit are written at their place
+pub encoded-fits : (l o : List ℕ) (at : ℕ) → at + 2 * length l ≤ length o → encodedOutput l o at ≡ write o at (textOf l)
+unfolding encodedOutput
+encoded-fits l o at h = rw (le-leb at (length o) (omega arith), le-leb (2 * length l) (length o - at) (omega arith))
 
 -- ---- there and back
 

@@ -20,7 +20,7 @@ use Rattle.octets.proofs.Tests.{cases, both-hold, holds-both}
 use Rattle.octets.proofs.Writing.{written-fits, wrote}
 use Rattle.hex.specs.Hex.{isHexadecimal, octetsOf, textOf, decodedOf, decodedOutput, encodedOutput}
 use Rattle.hex.specs.declared.Decoded.the-variants.{Octets}
-use Rattle.hex.proofs.Laws.{length-text, length-octets}
+use Rattle.hex.proofs.Laws.{length-text, length-octets, encoded-fits}
 use Rattle.pb_adv.specs.Segments.{segN, segmentPlace}
 use Rattle.pb_adv_writing.specs.Writing.{segmentFrame, headerOf, isSegment, SegmentAsked}
 use Rattle.pb_adv.specs.declared.TransactionNumber.{TransactionNumber}
@@ -49,11 +49,9 @@ frame-line-long f = omega (arith, length-append (textOf f) (10 ∷ []), length-t
 -- a frame's digits and the newline behind them
 pub line-put : (f output : List ℕ) (at : ℕ) → at + length (frameLine f) ≤ length output
     → set (encodedOutput f output at) (at + 2 * length f) 10 ≡ write output at (frameLine f)
-unfolding encodedOutput
 line-put f output at fits =
     let long = frame-line-long f in
-    rw (le-leb at (length output) (omega arith), le-leb (2 * length f) (length output - at) (omega arith), ← (length-text f))
-    (write-octet output at (textOf f) 10 (omega (arith, length-text f)))
+    rw (encoded-fits f output at (omega arith), ← (length-text f)) (write-octet output at (textOf f) 10 (omega (arith, length-text f)))
 
 -- ---- the lines of a message
 

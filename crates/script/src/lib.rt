@@ -1,0 +1,169 @@
+// The text of the replay program's language (docs/REPLAY.md): the arguments of a line, the line of an answer, and the hash of octets.
+// All numbers have an even count of digits, so arguments and answers are octets, written in hexadecimal.
+use hex::Decoded;
+use octets::Written;
+ghost use mathlib.Core.Path.{_≡_};
+ghost use mathlib.Core.Bool.{true};
+ghost use mathlib.Core.List.{[], _∷_};
+ghost use Prim.Native.Nat.{_≤_};
+ghost use lib.ListN.{length};
+ghost use Rattle.octets.specs.Numbers.{octets16, octets32};
+ghost use Rattle.octets.specs.Parts.{copied};
+ghost use Rattle.octets.specs.Writing.{written, outputAfter};
+ghost use Rattle.script.specs.Script.{capitals, isLine, argumentsOf, argumentsRead, argumentsAfter, answerLine, outcomeLine, hashStep, hashFrom};
+
+// The longest line, its newline left out.
+pub const LONGEST: usize = 8192;
+
+// The arguments of a line.
+pub enum Arguments {
+    // So many octets now stand at the start of the output.
+    Octets(usize),
+    // The output is as it was.
+    Malformed,
+}
+
+// What a line came to.
+pub enum Outcome {
+    // A letter, and so many octets from the start of the values.
+    Values { letter: u8, count: usize },
+    Done,
+    // A refusal by its number.
+    Refused(u8),
+    Malformed,
+}
+
+fn all_capitals(text: &[u8]) -> bool
+    ensures { λ r. ⌜ r ≡ capitals (now (text .entry)) ⌝ }
+{
+    let mut i = 0;
+    while i < text.len() {
+        if b'F' < text[i] {
+            return false;
+        }
+        i += 1;
+    }
+    true
+}
+
+// A line of two letters or more and at most 8,192 characters, whose digits are capitals.
+fn is_line(line: &[u8]) -> bool
+    ensures { λ r. ⌜ (r ≡ isLine (now (line .entry))) × (r ≡ true → 2 ≤ length (now (line .entry))) ⌝ }
+{
+    if line.len() < 2 {
+        return false;
+    }
+    if LONGEST < line.len() {
+        return false;
+    }
+    all_capitals(&line[2..])
+}
+
+fn arguments_of(decoded: Decoded) -> Arguments
+    ensures { λ r. ⌜ r ≡ argumentsOf decoded ⌝ }
+{
+    match decoded {
+        Decoded::Octets(n) => Arguments::Octets(n),
+        Decoded::NotHexadecimal => Arguments::Malformed,
+        Decoded::TooLong => Arguments::Malformed,
+    }
+}
+
+// The octets that a line has behind the two letters of its operation.
+pub fn read_arguments(line: &[u8], output: &mut [u8]) -> Arguments
+    ensures { λ r. ⌜ (r ≡ argumentsRead (now (line .entry)) (now (output .entry)))
+        × (now (output .exit) ≡ argumentsAfter (now (line .entry)) (now (output .entry))) ⌝ }
+{
+    if is_line(line) {
+        let decoded = hex::decode(&line[2..], output);
+        return arguments_of(decoded);
+    }
+    Arguments::Malformed
+}
+
+// The first characters of an answer, the digits of octets, and a newline.
+fn write_answer(head: &[u8], values: &[u8], output: &mut [u8]) -> Written
+    ensures { λ r. ⌜ (r ≡ written true (answerLine (now (head .entry)) (now (values .entry))) (now (output .entry)))
+        × (now (output .exit) ≡ outputAfter true (answerLine (now (head .entry)) (now (values .entry))) (now (output .entry))) ⌝ }
+{
+    if output.len() < head.len() {
+        return Written::WrongArgument;
+    }
+    let room = output.len() - head.len();
+    if room < 1 {
+        return Written::WrongArgument;
+    }
+    if (room - 1) / 2 < values.len() {
+        return Written::WrongArgument;
+    }
+    let end = head.len() + 2 * values.len();
+    octets::copy(output, 0, head, 0, head.len());
+    hex::encode(values, output, head.len());
+    output[end] = b'\n';
+    Written::Count(end + 1)
+}
+
+// The line of an answer.
+pub fn write_outcome(outcome: Outcome, values: &[u8], output: &mut [u8]) -> Written
+    ensures { λ r. ⌜ (r ≡ written true (outcomeLine outcome (now (values .entry))) (now (output .entry)))
+        × (now (output .exit) ≡ outputAfter true (outcomeLine outcome (now (values .entry))) (now (output .entry))) ⌝ }
+{
+    match outcome {
+        Outcome::Values { letter, count } => {
+            if values.len() < count {
+                return write_answer(&[letter], values, output);
+            }
+            write_answer(&[letter], &values[0..count], output)
+        }
+        Outcome::Done => write_answer(b"OK", b"", output),
+        Outcome::Refused(n) => { write_answer(&[b'!', 48 + n / 10 % 10, 48 + n % 10], b"", output) }
+        Outcome::Malformed => write_answer(b"?", b"", output),
+    }
+}
+
+fn hash_step(hash: u32, octet: u8) -> u32
+    ensures { λ r. ⌜ r ≡ hashStep hash octet ⌝ }
+{
+    (((hash as u64) * 257 + (octet as u64)) % 4294967291) as u32
+}
+
+// The hash of octets more.
+pub fn hash(before: u32, octets: &[u8]) -> u32
+    ensures { λ r. ⌜ r ≡ hashFrom before (now (octets .entry)) ⌝ }
+{
+    let mut h = before;
+    let mut i = 0;
+    while i < octets.len() {
+        h = hash_step(h, octets[i]);
+        i += 1;
+    }
+    h
+}
+
+// Puts a number of one octet at a place of the output; where it does not fit, nothing is put.
+pub fn put8(output: &mut [u8], at: usize, number: u8)
+    ensures { λ r. ⌜ now (output .exit) ≡ copied (now (output .entry)) at (number ∷ []) 0 1 ⌝ }
+{
+    octets::copy(output, at, &[number], 0, 1);
+}
+
+// Of two octets.
+pub fn put16(output: &mut [u8], at: usize, number: u16)
+    ensures { λ r. ⌜ now (output .exit) ≡ copied (now (output .entry)) at (octets16 number) 0 2 ⌝ }
+{
+    let number_octets = [(number / 256) as u8, (number % 256) as u8];
+    octets::copy(output, at, &number_octets, 0, 2);
+}
+
+// Of four octets.
+pub fn put32(output: &mut [u8], at: usize, number: u32)
+    ensures { λ r. ⌜ now (output .exit) ≡ copied (now (output .entry)) at (octets32 number) 0 4 ⌝ }
+{
+    let number_octets = [
+        (number / 16777216) as u8,
+        (number / 65536 % 256) as u8,
+        (number / 256 % 256) as u8,
+        (number % 256) as u8,
+    ];
+    octets::copy(output, at, &number_octets, 0, 4);
+}
