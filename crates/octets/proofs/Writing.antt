@@ -2,7 +2,7 @@
 use Prim.Native.Nat.{ℕ, _≤_, _<_}
 use native.Mathlib.Nat.{zero-add}
 use native.Mathlib.Omega.{arith}
-use mathlib.Core.Bool.{Bool, true}
+use mathlib.Core.Bool.{Bool, true, false}
 use mathlib.Core.List.{List}
 use mathlib.Core.Path.{_≡_, refl}
 use lib.Dec.{leb}
@@ -45,3 +45,8 @@ wrote right d output n =
     let k : length d ≡ n = cc in
     (b .0, rw (← k) (rw zero-add at (write-front output 0 d (rw zero-add (leb-true (length d) (length output) (b .1))))))))
     (λ e. rw e (λ q. let z : _≡_ {A = ℕ} 0 1 = cc in absurd (omega arith)))
+
+-- a writer with a wrong argument
+pub output-wrong : (right : Bool) (d output : List ℕ) → right ≡ false → (WrongArgument ≡ written right d output) × (output ≡ outputAfter right d output)
+unfolding written outputAfter
+output-wrong right d output h = rw h (refl, refl)

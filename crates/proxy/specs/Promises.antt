@@ -1,0 +1,67 @@
+-- What is promised of the proxy transfer beyond each call's contract. The proofs are `proofs/Promises.antt`.
+use Prim.Native.Nat.{ℕ}
+use mathlib.Core.Bool.{Bool, true, false, _&&_}
+use mathlib.Core.List.{List, [], _∷_, _++_}
+use mathlib.Core.Path.{_≡_}
+use lib.Dec.{leb}
+use lib.ListN.{length, drop, replicate}
+use Rattle.octets.specs.Told.{Told, refused, answered}
+use Rattle.proxy.specs.Pieces.{isCut, isType, lastPiece, messagePieces, piecesCounted, countTold}
+use Rattle.proxy.specs.Transfers.{empty, isGood, connecting, connectTold, pieceRead, bufferAfter, told}
+use Rattle.proxy.specs.declared.Transfer.{Transfer}
+
+-- ---- refusals, and good states
+
+-- "23 to 25 disconnect"
+abbrev pub disconnects : ℕ → Bool
+disconnects n = leb 23 n && leb n 25
+
+-- "No refusal touches the buffer", and what each leaves of the transfer
+pub record PieceRefused (s : Transfer) (b p : List ℕ) (n : ℕ) : Type 0 where
+  pub buffer : bufferAfter s b p ≡ b
+  pub keeps : disconnects n ≡ false → pieceRead s (length b) p .transfer ≡ s
+  pub drops : disconnects n ≡ true → pieceRead s (length b) p .transfer ≡ empty false
+
+abbrev pub RefusalKeeps : Type 0
+RefusalKeeps = (s : Transfer) (b p : List ℕ) (n : ℕ) → told (pieceRead s (length b) p .answer) ≡ refused n → PieceRefused s b p n
+
+abbrev pub ConnectRefusalKeeps : Type 0
+ConnectRefusalKeeps = (c : Bool) (s : Transfer) (n : ℕ) → connectTold (connecting c s .answer) ≡ refused n → connecting c s .transfer ≡ s
+
+-- a good transfer stays good under every call, and a new one is good
+pub record KeepsGood : Type 0 where
+  pub new : isGood (empty false) ≡ true
+  pub connects : (c : Bool) (s : Transfer) → isGood s ≡ true → isGood (connecting c s .transfer) ≡ true
+  pub reads : (s : Transfer) (b p : List ℕ) → isGood s ≡ true → isGood (pieceRead s (length b) p .transfer) ≡ true
+
+-- ---- pieces read one after the other
+
+-- what was answered, and the transfer and the buffer at the end
+pub record Run : Type 0 where
+  pub answers : List Told
+  pub transfer : Transfer
+  pub buffer : List ℕ
+
+-- each call takes transfer and buffer as the call before left them
+abbrev pub run : Transfer → List ℕ → List (List ℕ) → Run
+run s b [] = record { answers = []; transfer = s; buffer = b }
+run s b (p ∷ ps) =
+    let rest = run (pieceRead s (length b) p .transfer) (bufferAfter s b p) ps in
+    record { answers = told (pieceRead s (length b) p .answer) ∷ rest .answers; transfer = rest .transfer; buffer = rest .buffer }
+
+-- THE MESSAGE COMES BACK: for every size, type and message, and any buffer, its pieces are answered "more" but the last, which is answered type and
+-- length; the message stands at the start of the buffer, the rest of which is unchanged, and the transfer is connected and empty
+abbrev pub Back : Type 0
+Back =
+    (z t : ℕ) (m b : List ℕ) → isCut z (length m) ≡ true → isType t ≡ true → length b ≡ 1469
+    → run (empty true) b (messagePieces z t m)
+    ≡ record {
+      answers = replicate (lastPiece z (length m)) (answered "more" []) ++ (answered "whole" (t ∷ length m ∷ []) ∷ []);
+      transfer = empty true;
+      buffer = m ++ drop (length m) b;
+    }
+
+-- "The number of pieces reported is the length of that list."
+abbrev pub CountIsLength : Type 0
+CountIsLength =
+    (z t : ℕ) (m : List ℕ) → isCut z (length m) ≡ true → countTold (piecesCounted z (length m)) ≡ answered "pieces" (length (messagePieces z t m) ∷ [])

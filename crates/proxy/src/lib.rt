@@ -1,0 +1,378 @@
+// Proxy transfer: a message cut into pieces of the proxy size, and pieces put together again in a lent buffer. The type of a message is called
+// kind here, since `type` is a word of the language.
+use octets::Written;
+use octets::octet_at;
+ghost use mathlib.Core.Path.{_≡_};
+ghost use mathlib.Core.Bool.{true, false};
+ghost use Prim.Native.Nat.{_+_, _-_, _≤_, min};
+ghost use lib.Dec.{leb};
+ghost use lib.ListN.{length};
+ghost use Rattle.octets.specs.Writing.{written, outputAfter};
+ghost use Rattle.proxy.specs.Pieces.{isCut, lastPiece, firstOctet, pieceOctets, piecesCounted, isPiece, CutAsked, PieceAsked};
+ghost use Rattle.proxy.specs.Transfers.{empty, isGood, connecting, heldLength, isExpected, isLikeFirst, refusing, disconnecting, complete, added, joining, offered, pieceRead, isRefused, bufferAfter};
+
+// The answer of the count of pieces.
+pub enum PieceCount {
+    Pieces(usize),
+    // Refusal 11: a size outside 20 to 514, or a length outside 1 to 1,469.
+    WrongArgument,
+}
+
+// A half-received message: its type, and how many of its octets stand at the start of the buffer.
+pub enum HalfTransfer {
+    Nothing,
+    Held { kind: u8, length: u16 },
+}
+
+pub struct Transfer {
+    pub connected: bool,
+    pub half: HalfTransfer,
+}
+
+pub enum ConnectAnswer {
+    Done,
+    BadState,
+}
+
+// The transfer after connecting or disconnecting, and the answer.
+pub struct Connected {
+    pub transfer: Transfer,
+    pub answer: ConnectAnswer,
+}
+
+pub enum PieceRefusal {
+    WrongArgument,
+    BadState,
+    Disconnected,
+    NoData,
+    ReservedType,
+    UnexpectedTopBits,
+    OtherType,
+    TooLong,
+}
+
+pub enum PieceAnswer {
+    More,
+    // A whole message stands at the start of the buffer.
+    Whole { kind: u8, length: u16 },
+    Refused(PieceRefusal),
+}
+
+// The transfer after a piece was read, and the answer.
+pub struct PieceRead {
+    pub transfer: Transfer,
+    pub answer: PieceAnswer,
+}
+
+// Whether a message of a length is cut by a size.
+fn is_cut(size: usize, length: usize) -> bool
+    ensures { λ r. ⌜ r ≡ isCut size length ⌝ }
+{
+    if size < 20 {
+        return false;
+    }
+    if 514 < size {
+        return false;
+    }
+    if length < 1 {
+        return false;
+    }
+    length <= 1469
+}
+
+fn last_piece(size: usize, length: usize) -> usize
+    requires { ⌜ CutAsked size length ⌝ }
+    ensures { λ r. ⌜ r ≡ lastPiece size length ⌝ }
+{
+    (length - 1) / (size - 1)
+}
+
+// The number of pieces in which a message of a length goes.
+pub fn count_pieces(size: usize, length: usize) -> PieceCount
+    ensures { λ r. ⌜ r ≡ piecesCounted size length ⌝ }
+{
+    if is_cut(size, length) {
+        return PieceCount::Pieces(last_piece(size, length) + 1);
+    }
+    PieceCount::WrongArgument
+}
+
+fn first_octet(size: usize, kind: u8, length: usize, index: usize) -> u8
+    requires { ⌜ PieceAsked size kind length index ⌝ }
+    ensures { λ r. ⌜ r ≡ firstOctet size kind length index ⌝ }
+{
+    if length < size {
+        return kind;
+    }
+    if index == 0 {
+        return 64 + kind;
+    }
+    if index == last_piece(size, length) {
+        return 192 + kind;
+    }
+    128 + kind
+}
+
+// How many octets of a message a piece takes from a place on.
+fn piece_length(size: usize, length: usize, from: usize) -> usize
+    requires { ⌜ (1 ≤ size) × (from ≤ length) ⌝ }
+    ensures { λ r. ⌜ r ≡ min (size - 1) (length - from) ⌝ }
+{
+    if length - from < size {
+        return length - from;
+    }
+    size - 1
+}
+
+fn put_piece(size: usize, kind: u8, message: &[u8], index: usize, output: &mut [u8]) -> Written
+    requires { ⌜ PieceAsked size kind (length (now message)) index ⌝ }
+    ensures { λ r. ⌜ (r ≡ written true (pieceOctets size kind (now (message .entry)) index) (now (output .entry)))
+        × (now (output .exit) ≡ outputAfter true (pieceOctets size kind (now (message .entry)) index) (now (output .entry))) ⌝ }
+{
+    let from = (size - 1) * index;
+    let count = piece_length(size, message.len(), from);
+    if output.len() <= count {
+        return Written::WrongArgument;
+    }
+    output[0] = first_octet(size, kind, message.len(), index);
+    octets::copy(output, 1, message, from, count);
+    Written::Count(1 + count)
+}
+
+// Writes one piece of a message, numbered from 0.
+pub fn write_piece(
+    size: usize,
+    kind: u8,
+    message: &[u8],
+    index: usize,
+    output: &mut [u8],
+) -> Written
+    ensures { λ r. ⌜ (r ≡ written (isPiece size kind (now (message .entry)) index) (pieceOctets size kind (now (message .entry)) index) (now (output .entry)))
+        × (now (output .exit) ≡ outputAfter (isPiece size kind (now (message .entry)) index) (pieceOctets size kind (now (message .entry)) index) (now (output .entry))) ⌝ }
+{
+    if is_cut(size, message.len()) {
+        if 3 < kind {
+            return Written::WrongArgument;
+        }
+        if last_piece(size, message.len()) < index {
+            return Written::WrongArgument;
+        }
+        return put_piece(size, kind, message, index, output);
+    }
+    Written::WrongArgument
+}
+
+fn with_nothing(connected: bool) -> Transfer
+    ensures { λ r. ⌜ r ≡ empty connected ⌝ }
+{
+    Transfer {
+        connected: connected,
+        half: HalfTransfer::Nothing,
+    }
+}
+
+// A transfer at start: disconnected.
+pub fn new_transfer() -> Transfer
+    ensures { λ r. ⌜ r ≡ empty false ⌝ }
+{
+    with_nothing(false)
+}
+
+fn is_good(transfer: Transfer) -> bool
+    ensures { λ r. ⌜ r ≡ isGood transfer ⌝ }
+{
+    let half = transfer.half;
+    match half {
+        HalfTransfer::Nothing => true,
+        HalfTransfer::Held { kind, length } => {
+            if transfer.connected {
+                if 3 < kind {
+                    return false;
+                }
+                if length < 1 {
+                    return false;
+                }
+                return length <= 1469;
+            }
+            false
+        }
+    }
+}
+
+fn set_connected(connected: bool, transfer: Transfer) -> Connected
+    ensures { λ r. ⌜ r ≡ connecting connected transfer ⌝ }
+{
+    if is_good(transfer) {
+        return Connected {
+            transfer: with_nothing(connected),
+            answer: ConnectAnswer::Done,
+        };
+    }
+    Connected {
+        transfer: transfer,
+        answer: ConnectAnswer::BadState,
+    }
+}
+
+// Connects, with nothing half-received.
+pub fn connect(transfer: Transfer) -> Connected
+    ensures { λ r. ⌜ r ≡ connecting true transfer ⌝ }
+{
+    set_connected(true, transfer)
+}
+
+// Disconnects, and drops what is half-received.
+pub fn disconnect(transfer: Transfer) -> Connected
+    ensures { λ r. ⌜ r ≡ connecting false transfer ⌝ }
+{
+    set_connected(false, transfer)
+}
+
+fn refuse(transfer: Transfer, refusal: PieceRefusal) -> PieceRead
+    ensures { λ r. ⌜ r ≡ refusing transfer refusal ⌝ }
+{
+    PieceRead {
+        transfer: transfer,
+        answer: PieceAnswer::Refused(refusal),
+    }
+}
+
+fn held_length(half: HalfTransfer) -> usize
+    ensures { λ r. ⌜ (r ≡ heldLength half) × (r ≤ 65535) ⌝ }
+{
+    match half {
+        HalfTransfer::Nothing => 0,
+        HalfTransfer::Held { kind, length } => length as usize,
+    }
+}
+
+fn is_expected(half: HalfTransfer, top: u8) -> bool
+    ensures { λ r. ⌜ r ≡ isExpected half top ⌝ }
+{
+    match half {
+        HalfTransfer::Nothing => top <= 1,
+        HalfTransfer::Held { kind, length } => 2 <= top,
+    }
+}
+
+fn is_like_first(half: HalfTransfer, other: u8) -> bool
+    ensures { λ r. ⌜ r ≡ isLikeFirst half other ⌝ }
+{
+    match half {
+        HalfTransfer::Nothing => true,
+        HalfTransfer::Held { kind, length } => kind == other,
+    }
+}
+
+fn disconnect_refused(refusal: PieceRefusal) -> PieceRead
+    ensures { λ r. ⌜ r ≡ disconnecting refusal ⌝ }
+{
+    refuse(with_nothing(false), refusal)
+}
+
+fn finish(kind: u8, length: u16) -> PieceRead
+    ensures { λ r. ⌜ r ≡ complete kind length ⌝ }
+{
+    PieceRead {
+        transfer: with_nothing(true),
+        answer: PieceAnswer::Whole {
+            kind: kind,
+            length: length,
+        },
+    }
+}
+
+fn add(top: u8, kind: u8, length: u16) -> PieceRead
+    ensures { λ r. ⌜ r ≡ added top kind length ⌝ }
+{
+    if top == 0 {
+        return finish(kind, length);
+    }
+    if top == 3 {
+        return finish(kind, length);
+    }
+    PieceRead {
+        transfer: Transfer {
+            connected: true,
+            half: HalfTransfer::Held {
+                kind: kind,
+                length: length,
+            },
+        },
+        answer: PieceAnswer::More,
+    }
+}
+
+// A piece with count octets of data is offered to what is held.
+fn join(half: HalfTransfer, top: u8, kind: u8, count: usize) -> PieceRead
+    ensures { λ r. ⌜ r ≡ joining half top kind count ⌝ }
+{
+    if is_expected(half, top) {
+        if is_like_first(half, kind) {
+            let held = held_length(half);
+            if 1469 < count {
+                return disconnect_refused(PieceRefusal::TooLong);
+            }
+            if 1469 < held + count {
+                return disconnect_refused(PieceRefusal::TooLong);
+            }
+            return add(top, kind, (held + count) as u16);
+        }
+        return disconnect_refused(PieceRefusal::OtherType);
+    }
+    disconnect_refused(PieceRefusal::UnexpectedTopBits)
+}
+
+fn offer(transfer: Transfer, piece: &[u8]) -> PieceRead
+    ensures { λ r. ⌜ r ≡ offered transfer (now (piece .entry)) ⌝ }
+{
+    if piece.len() < 2 {
+        return refuse(transfer, PieceRefusal::NoData);
+    }
+    let first = octet_at(piece, 0);
+    let half = transfer.half;
+    if 3 < first % 64 {
+        return refuse(transfer, PieceRefusal::ReservedType);
+    }
+    join(half, first / 64, first % 64, piece.len() - 1)
+}
+
+fn judge(transfer: Transfer, room: usize, piece: &[u8]) -> PieceRead
+    ensures { λ r. ⌜ r ≡ pieceRead transfer room (now (piece .entry)) ⌝ }
+{
+    if room != 1469 {
+        return refuse(transfer, PieceRefusal::WrongArgument);
+    }
+    if is_good(transfer) {
+        if transfer.connected {
+            return offer(transfer, piece);
+        }
+        return refuse(transfer, PieceRefusal::Disconnected);
+    }
+    refuse(transfer, PieceRefusal::BadState)
+}
+
+fn is_refused(answer: PieceAnswer) -> bool
+    ensures { λ r. ⌜ r ≡ isRefused answer ⌝ }
+{
+    match answer {
+        PieceAnswer::More => false,
+        PieceAnswer::Whole { kind, length } => false,
+        PieceAnswer::Refused(refusal) => true,
+    }
+}
+
+// Reads a piece of any length; the buffer has 1,469 octets.
+pub fn read_piece(transfer: Transfer, buffer: &mut [u8], piece: &[u8]) -> PieceRead
+    ensures { λ r. ⌜ (r ≡ pieceRead transfer (length (now (buffer .entry))) (now (piece .entry)))
+        × (now (buffer .exit) ≡ bufferAfter transfer (now (buffer .entry)) (now (piece .entry))) ⌝ }
+{
+    let read = judge(transfer, buffer.len(), piece);
+    let answer = read.answer;
+    if is_refused(answer) {
+        return read;
+    }
+    let half = transfer.half;
+    octets::copy(buffer, held_length(half), piece, 1, piece.len() - 1);
+    read
+}
