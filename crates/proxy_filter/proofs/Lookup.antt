@@ -1,16 +1,16 @@
 -- The lookup: one turn of its loop, and what it finds.
-use Prim.Native.Nat.{ℕ, zero, suc, _+_, _<_, _≤_}
-use native.Mathlib.Nat.{add-zero, add-suc, suc-add}
+use Prim.Native.Nat.{ℕ, zero, suc, _+_, _<_}
+use native.Mathlib.Nat.{add-zero}
 use native.Mathlib.Numerals.{add-one}
 use native.Mathlib.Omega.{arith}
 use mathlib.Core.Bool.{Bool, true, false, _||_, cond}
 use mathlib.Core.List.{List, [], _∷_, _++_}
-use mathlib.Core.Path.{_≡_, refl, sym, ap, _∙_, subst}
+use mathlib.Core.Path.{_≡_, refl, ap, subst}
 use lib.Dec.{eqb}
-use lib.ListN.{length, drop, getD}
-use borrow.Author.Tests.{eq-eqb, ne-eqb, eqb-true}
+use lib.ListN.{length, drop, getD, length-append}
+use borrow.Author.Tests.{eqb-true}
 use Rattle.octets.proofs.Loops.{left-here}
-use Rattle.octets.proofs.Tests.{cases, both}
+use Rattle.octets.proofs.Tests.{cases}
 use Rattle.proxy_filter.specs.Filters.{unused, isOn, findFrom}
 use Rattle.proxy_filter.specs.declared.Entry.{Entry}
 use Rattle.proxy_filter.specs.declared.Place.{Place}
@@ -46,3 +46,23 @@ found (e ∷ l) a k =
     cases (eqb (e .address) a)
     (λ g. rw g (subst (λ (n : ℕ). Found (e ∷ l) a k (At n)) (add-zero k) (there [] e l refl refl (eqb-true (e .address) a g))))
     (λ g. rw g (one-more e l a k _ g (found l a (suc k))))
+
+abbrev pub isThere : Place → Bool
+isThere (At p) = true
+isThere Nowhere = false
+
+-- an address is on a list exactly if the lookup finds it
+pub on-found : (l : List Entry) (a k : ℕ) → isOn l a ≡ isThere (findFrom k l a)
+unfolding findFrom
+on-found [] a k = refl
+on-found (e ∷ l) a k = cases (eqb (e .address) a) (λ g. rw g) (λ g. rw g (on-found l a (suc k)))
+
+below : (l : List Entry) (a k : ℕ) (q : Place) → Found l a k q → (p : ℕ) → q ≡ At p → p < k + length l
+below l a k q (there x e y s n h) p g =
+    let w : k + length x ≡ p = cc in
+    omega (arith, w, ap length s, length-append x (e ∷ y))
+below l a k q (absent n) p g = let z : _≡_ {A = ℕ} 0 1 = cc in absurd (omega arith)
+
+-- the place found is one of the list's
+pub found-below : (l : List Entry) (a p : ℕ) → findFrom 0 l a ≡ At p → p < length l
+found-below l a p g = omega (arith, below l a 0 (findFrom 0 l a) (found l a 0) p g)

@@ -2,13 +2,13 @@
 use octets::octet_at;
 use octets::read16;
 ghost use mathlib.Core.Path.{_≡_};
-ghost use mathlib.Core.Bool.{true};
+ghost use mathlib.Core.Bool.{true, _&&_, not};
 ghost use mathlib.Core.List.{_++_, _∷_, []};
 ghost use Prim.Native.Nat.{suc, _≤_, _<_};
 ghost use lib.Dec.{eqb};
 ghost use lib.ListN.{length, take, drop};
 ghost use Rattle.proxy_filter.specs.Filters.{held, past, unused, holding, findFrom, isOn, noneBad, allUnused, isGood};
-ghost use Rattle.proxy_filter.specs.Calls.{new, appended, without, changed, changedAll, addresses, changeFor, statusOctets, reporting, refusing, requestOf, typeOf, changeOf, controlled, learned, passing, passAnswer};
+ghost use Rattle.proxy_filter.specs.Calls.{new, appended, without, changed, changedAll, addresses, changeFor, isUnicast, statusOctets, reporting, refusing, requestOf, typeOf, changeOf, controlled, learned, passing, passAnswer};
 
 pub enum FilterType {
     AcceptList,
@@ -165,6 +165,33 @@ fn change_for(kind: FilterType) -> Change
     }
 }
 
+// Whether an address is one that a source address can be.
+fn is_unicast(address: u16) -> bool
+    ensures { λ r. ⌜ r ≡ isUnicast address ⌝ }
+{
+    if 0x0001 <= address {
+        address <= 0x7FFF
+    } else {
+        false
+    }
+}
+
+// The pass decision, by the place at which the destination was found.
+fn pass_answer(kind: FilterType, place: Place) -> PassAnswer
+    ensures { λ r. ⌜ r ≡ passAnswer kind place ⌝ }
+{
+    match kind {
+        FilterType::AcceptList => match place {
+            Place::At(_) => PassAnswer::Passes,
+            Place::Nowhere => PassAnswer::DoesNotPass,
+        },
+        FilterType::RejectList => match place {
+            Place::At(_) => PassAnswer::DoesNotPass,
+            Place::Nowhere => PassAnswer::Passes,
+        },
+    }
+}
+
 impl Filter {
     // An empty filter of a type.
     fn empty(kind: FilterType) -> Self
@@ -199,5 +226,212 @@ impl Filter {
             i += 1;
         }
         Place::Nowhere
+    }
+
+    // Whether an address isn't 0x0000 and isn't among those held from a place on.
+    fn is_allowed(self, address: u16, from: usize) -> bool
+        requires { ⌜ self .count ≤ 16 ⌝ }
+        ensures { λ r. ⌜ r ≡ (not (eqb address 0) && not (isOn (drop from (held self)) address)) ⌝ }
+    {
+        if address == 0 {
+            return false;
+        }
+        let place = self.find_from(from, address);
+        match place {
+            Place::At(_) => false,
+            Place::Nowhere => true,
+        }
+    }
+
+    // Whether no address held is 0x0000 or repeated.
+    fn none_bad(self) -> bool
+        requires { ⌜ self .count ≤ 16 ⌝ }
+        ensures { λ r. ⌜ r ≡ noneBad (held self) ⌝ }
+    {
+        let entries = self.entries;
+        let count = self.count as usize;
+        let mut i = 0;
+        while i < count {
+            let entry = entries[i];
+            if self.is_allowed(entry.address, i + 1) {
+                i += 1;
+            } else {
+                return false;
+            }
+        }
+        true
+    }
+
+    // Whether no place past the count is in use.
+    fn past_unused(self) -> bool
+        requires { ⌜ self .count ≤ 16 ⌝ }
+        ensures { λ r. ⌜ r ≡ allUnused (past self) ⌝ }
+    {
+        let entries = self.entries;
+        let count = self.count as usize;
+        let mut i = count;
+        while i < 16 {
+            let entry = entries[i];
+            if is_unused(entry) {
+                i += 1;
+            } else {
+                return false;
+            }
+        }
+        true
+    }
+
+    // Whether the filter isn't bad.
+    fn is_good(self) -> bool
+        ensures { λ r. ⌜ r ≡ isGood self ⌝ }
+    {
+        if self.count <= 16 {
+            if self.none_bad() {
+                self.past_unused()
+            } else {
+                false
+            }
+        } else {
+            false
+        }
+    }
+
+    // An address is put after the others, if there is room.
+    fn append(mut self, address: u16) -> Self
+        requires { ⌜ isGood self ≡ true ⌝ }
+        ensures { λ r. ⌜ r ≡ holding (self .kind) (appended (held self) address) ⌝ }
+    {
+        let count = self.count as usize;
+        if 16 <= count {
+            return self;
+        }
+        self.entries[count] = Entry { address: address };
+        self.count = self.count + 1;
+        self
+    }
+
+    // The address at a place is taken out.
+    fn remove_at(mut self, at: usize) -> Self
+        requires { ⌜ (isGood self ≡ true) × (at < self .count) ⌝ }
+        ensures { λ r. ⌜ r ≡ holding (self .kind) (without (held self) at) ⌝ }
+    {
+        let entries = self.entries;
+        let closed = close_place(entries, at);
+        self.entries = closed;
+        self.count = self.count - 1;
+        self
+    }
+
+    // An address is added or removed, or skipped.
+    fn change_one(self, change: Change, address: u16) -> Self
+        requires { ⌜ isGood self ≡ true ⌝ }
+        ensures { λ r. ⌜ r ≡ holding (self .kind) (changed change (held self) address) ⌝ }
+    {
+        if address == 0 {
+            return self;
+        }
+        let place = self.find_from(0, address);
+        match change {
+            Change::Add => match place {
+                Place::At(_) => self,
+                Place::Nowhere => self.append(address),
+            },
+            Change::Remove => match place {
+                Place::At(at) => self.remove_at(at),
+                Place::Nowhere => self,
+            },
+        }
+    }
+
+    // Each address of a message in turn.
+    fn change_all(mut self, change: Change, message: &[u8]) -> Self
+        requires { ⌜ isGood self ≡ true ⌝ }
+        ensures { λ r. ⌜ r ≡ holding (self .kind) (changedAll change (held self) (addresses (drop 1 (now (message .entry))))) ⌝ }
+    {
+        let mut at = 1;
+        while at + 1 < message.len() {
+            let address = read16(message, at);
+            self = self.change_one(change, address);
+            at += 2;
+        }
+        self
+    }
+
+    // The filter with its status.
+    fn report(self) -> FilterStep
+        ensures { λ r. ⌜ r ≡ reporting self ⌝ }
+    {
+        let kind = self.kind;
+        FilterStep {
+            filter: self,
+            answer: FilterAnswer::Status {
+                kind: kind,
+                count: self.count,
+            },
+        }
+    }
+
+    // The filter as it was, with a refusal.
+    fn refuse(self, refusal: FilterRefusal) -> FilterStep
+        ensures { λ r. ⌜ r ≡ refusing self refusal ⌝ }
+    {
+        FilterStep {
+            filter: self,
+            answer: FilterAnswer::Refused(refusal),
+        }
+    }
+
+    // A filter message of any octets.
+    pub fn control(mut self, message: &[u8]) -> FilterStep
+        ensures { λ r. ⌜ r ≡ controlled self (now (message .entry)) ⌝ }
+    {
+        if self.is_good() {
+            let request = request_of(message);
+            match request {
+                Request::SetType(kind) => {
+                    self = Filter::empty(kind);
+                    self.report()
+                }
+                Request::Change(change) => {
+                    self = self.change_all(change, message);
+                    self.report()
+                }
+                Request::Refused(refusal) => self.refuse(refusal),
+            }
+        } else {
+            self.refuse(FilterRefusal::BadState)
+        }
+    }
+
+    // The source address of a network message heard from the proxy client.
+    pub fn learn(mut self, source: u16) -> FilterStep
+        ensures { λ r. ⌜ r ≡ learned self source ⌝ }
+    {
+        if self.is_good() {
+            if is_unicast(source) {
+                let kind = self.kind;
+                self = self.change_one(change_for(kind), source);
+                self.report()
+            } else {
+                self.refuse(FilterRefusal::NotUnicast)
+            }
+        } else {
+            self.refuse(FilterRefusal::BadState)
+        }
+    }
+
+    // Whether a network message with a destination address is passed on to the proxy client.
+    pub fn pass(self, destination: u16) -> PassAnswer
+        ensures { λ r. ⌜ r ≡ passing self destination ⌝ }
+    {
+        if self.is_good() {
+            if destination == 0 {
+                return PassAnswer::DoesNotPass;
+            }
+            let kind = self.kind;
+            let place = self.find_from(0, destination);
+            return pass_answer(kind, place);
+        }
+        PassAnswer::BadState
     }
 }

@@ -57,9 +57,14 @@ loop-less c = search needs
 loop-again : tie.Need-loop-again Inv-loop μ-loop
 loop-again c =
     let l = c .before .before .loop in
-    let a = c .before .before .before .args in
-    (l .inv .0, (omega arith, ap (λ (x : List Entry). set x (a .at + l .j) (getD (a .t1) (a .at + l .j + 1) unused)) (l .inv .1 .1)
-    ∙ moved-down (a .t1) (a .at) (l .j) (omega arith)))
+    let a = c .before .before .before .args in (
+      l .inv .0,
+      (
+        omega arith,
+        ap (λ (x : List Entry). set x (a .at + l .j) (getD (a .t1) (a .at + l .j + 1) unused)) (l .inv .1 .1)
+            ∙ moved-down (a .t1) (a .at) (l .j) (omega arith),
+      ),
+    )
 
 array-set-from-closed-2 : tie.Need-array-set-from-closed-2 Inv-loop μ-loop
 array-set-from-closed-2 c = search needs
