@@ -2,3 +2,4 @@ pub mod Tests
 pub mod Parts
 pub mod Cut
 pub mod Writing
+pub mod Loops

@@ -1,0 +1,5 @@
+mod Lookup
+mod Places
+mod Holding
+mod Lists
+mod Turns

@@ -1,0 +1,437 @@
+// The proxy filter: an accept list or a reject list of at most 16 addresses.
+use octets::octet_at;
+use octets::read16;
+ghost use mathlib.Core.Path.{_≡_};
+ghost use mathlib.Core.Bool.{true, _&&_, not};
+ghost use mathlib.Core.List.{_++_, _∷_, []};
+ghost use Prim.Native.Nat.{suc, _≤_, _<_};
+ghost use lib.Dec.{eqb};
+ghost use lib.ListN.{length, take, drop};
+ghost use Rattle.proxy_filter.specs.Filters.{held, past, unused, holding, findFrom, isOn, noneBad, allUnused, isGood};
+ghost use Rattle.proxy_filter.specs.Calls.{new, appended, without, changed, changedAll, addresses, changeFor, isUnicast, statusOctets, reporting, refusing, requestOf, typeOf, changeOf, controlled, learned, passing, passAnswer};
+
+pub enum FilterType {
+    AcceptList,
+    RejectList,
+}
+
+// A place of the list; 0x0000 where it is not in use.
+pub struct Entry {
+    pub address: u16,
+}
+
+// The addresses are the first count entries, in order of adding.
+pub struct Filter {
+    pub kind: FilterType,
+    pub count: u8,
+    pub entries: [Entry; 16],
+}
+
+// The place of an address among those held, from 0.
+pub enum Place {
+    At(usize),
+    Nowhere,
+}
+
+// What is done with an address.
+pub enum Change {
+    Add,
+    Remove,
+}
+
+pub enum FilterRefusal {
+    BadState,
+    Empty,
+    UnknownOpcode,
+    WrongLength,
+    UnknownType,
+    NotUnicast,
+}
+
+// What a message asks for.
+pub enum Request {
+    SetType(FilterType),
+    Change(Change),
+    Refused(FilterRefusal),
+}
+
+pub enum FilterAnswer {
+    Status { kind: FilterType, count: u8 },
+    Refused(FilterRefusal),
+}
+
+// The filter after a call, and the call's answer.
+pub struct FilterStep {
+    pub filter: Filter,
+    pub answer: FilterAnswer,
+}
+
+pub enum PassAnswer {
+    Passes,
+    DoesNotPass,
+    BadState,
+}
+
+// The four octets of a filter status message.
+pub fn status_octets(kind: FilterType, count: u8) -> [u8; 4]
+    ensures { λ r. ⌜ r ≡ statusOctets kind count ⌝ }
+{
+    match kind {
+        FilterType::AcceptList => [3, 0, 0, count],
+        FilterType::RejectList => [3, 1, 0, count],
+    }
+}
+
+fn is_unused(entry: Entry) -> bool
+    ensures { λ r. ⌜ r ≡ eqb (entry .address) 0 ⌝ }
+{
+    entry.address == 0
+}
+
+// The entries with the one at a place taken out, those after it moved down by one, and the last place not in use.
+fn close_place(entries: [Entry; 16], at: usize) -> [Entry; 16]
+    requires { ⌜ at < 16 ⌝ }
+    ensures { λ r. ⌜ r ≡ take at entries ++ drop (suc at) entries ++ (unused ∷ []) ⌝ }
+{
+    let mut closed = entries;
+    let mut j = 0;
+    while at + j < 15 {
+        let next = entries[at + j + 1];
+        closed[at + j] = next;
+        j += 1;
+    }
+    closed[15] = Entry { address: 0 };
+    closed
+}
+
+// What a message to set the type asks for.
+fn type_of(message: &[u8]) -> Request
+    requires { ⌜ 0 < length (now message) ⌝ }
+    ensures { λ r. ⌜ r ≡ typeOf (now (message .entry)) ⌝ }
+{
+    if message.len() - 1 == 1 {
+        let kind = octet_at(message, 1);
+        if kind == 0 {
+            return Request::SetType(FilterType::AcceptList);
+        }
+        if kind == 1 {
+            return Request::SetType(FilterType::RejectList);
+        }
+        return Request::Refused(FilterRefusal::UnknownType);
+    }
+    Request::Refused(FilterRefusal::WrongLength)
+}
+
+// What a message to add or to remove addresses asks for.
+fn change_of(change: Change, message: &[u8]) -> Request
+    requires { ⌜ 0 < length (now message) ⌝ }
+    ensures { λ r. ⌜ r ≡ changeOf change (now (message .entry)) ⌝ }
+{
+    if message.len() - 1 <= 32 {
+        if (message.len() - 1) % 2 == 0 {
+            return Request::Change(change);
+        }
+    }
+    Request::Refused(FilterRefusal::WrongLength)
+}
+
+// What a message asks for.
+fn request_of(message: &[u8]) -> Request
+    ensures { λ r. ⌜ r ≡ requestOf (now (message .entry)) ⌝ }
+{
+    if message.len() == 0 {
+        return Request::Refused(FilterRefusal::Empty);
+    }
+    let opcode = octet_at(message, 0);
+    if opcode == 0 {
+        return type_of(message);
+    }
+    if opcode == 1 {
+        return change_of(Change::Add, message);
+    }
+    if opcode == 2 {
+        return change_of(Change::Remove, message);
+    }
+    Request::Refused(FilterRefusal::UnknownOpcode)
+}
+
+// What is done with a source address.
+fn change_for(kind: FilterType) -> Change
+    ensures { λ r. ⌜ r ≡ changeFor kind ⌝ }
+{
+    match kind {
+        FilterType::AcceptList => Change::Add,
+        FilterType::RejectList => Change::Remove,
+    }
+}
+
+// Whether an address is one that a source address can be.
+fn is_unicast(address: u16) -> bool
+    ensures { λ r. ⌜ r ≡ isUnicast address ⌝ }
+{
+    if 0x0001 <= address {
+        address <= 0x7FFF
+    } else {
+        false
+    }
+}
+
+// The pass decision, by the place at which the destination was found.
+fn pass_answer(kind: FilterType, place: Place) -> PassAnswer
+    ensures { λ r. ⌜ r ≡ passAnswer kind place ⌝ }
+{
+    match kind {
+        FilterType::AcceptList => match place {
+            Place::At(_) => PassAnswer::Passes,
+            Place::Nowhere => PassAnswer::DoesNotPass,
+        },
+        FilterType::RejectList => match place {
+            Place::At(_) => PassAnswer::DoesNotPass,
+            Place::Nowhere => PassAnswer::Passes,
+        },
+    }
+}
+
+impl Filter {
+    // An empty filter of a type.
+    fn empty(kind: FilterType) -> Self
+        ensures { λ r. ⌜ r ≡ holding kind [] ⌝ }
+    {
+        Filter {
+            kind: kind,
+            count: 0,
+            entries: [Entry { address: 0 }; 16],
+        }
+    }
+
+    pub fn new() -> Self
+        ensures { λ r. ⌜ r ≡ new ⌝ }
+    {
+        Filter::empty(FilterType::AcceptList)
+    }
+
+    // The lookup: the place of an address among those held from a place on.
+    fn find_from(self, from: usize, address: u16) -> Place
+        requires { ⌜ self .count ≤ 16 ⌝ }
+        ensures { λ r. ⌜ r ≡ findFrom from (drop from (held self)) address ⌝ }
+    {
+        let entries = self.entries;
+        let count = self.count as usize;
+        let mut i = from;
+        while i < count {
+            let entry = entries[i];
+            if entry.address == address {
+                return Place::At(i);
+            }
+            i += 1;
+        }
+        Place::Nowhere
+    }
+
+    // Whether an address isn't 0x0000 and isn't among those held from a place on.
+    fn is_allowed(self, address: u16, from: usize) -> bool
+        requires { ⌜ self .count ≤ 16 ⌝ }
+        ensures { λ r. ⌜ r ≡ (not (eqb address 0) && not (isOn (drop from (held self)) address)) ⌝ }
+    {
+        if address == 0 {
+            return false;
+        }
+        let place = self.find_from(from, address);
+        match place {
+            Place::At(_) => false,
+            Place::Nowhere => true,
+        }
+    }
+
+    // Whether no address held is 0x0000 or repeated.
+    fn none_bad(self) -> bool
+        requires { ⌜ self .count ≤ 16 ⌝ }
+        ensures { λ r. ⌜ r ≡ noneBad (held self) ⌝ }
+    {
+        let entries = self.entries;
+        let count = self.count as usize;
+        let mut i = 0;
+        while i < count {
+            let entry = entries[i];
+            if self.is_allowed(entry.address, i + 1) {
+                i += 1;
+            } else {
+                return false;
+            }
+        }
+        true
+    }
+
+    // Whether no place past the count is in use.
+    fn past_unused(self) -> bool
+        requires { ⌜ self .count ≤ 16 ⌝ }
+        ensures { λ r. ⌜ r ≡ allUnused (past self) ⌝ }
+    {
+        let entries = self.entries;
+        let count = self.count as usize;
+        let mut i = count;
+        while i < 16 {
+            let entry = entries[i];
+            if is_unused(entry) {
+                i += 1;
+            } else {
+                return false;
+            }
+        }
+        true
+    }
+
+    // Whether the filter isn't bad.
+    fn is_good(self) -> bool
+        ensures { λ r. ⌜ r ≡ isGood self ⌝ }
+    {
+        if self.count <= 16 {
+            if self.none_bad() {
+                self.past_unused()
+            } else {
+                false
+            }
+        } else {
+            false
+        }
+    }
+
+    // An address is put after the others, if there is room.
+    fn append(mut self, address: u16) -> Self
+        requires { ⌜ isGood self ≡ true ⌝ }
+        ensures { λ r. ⌜ r ≡ holding (self .kind) (appended (held self) address) ⌝ }
+    {
+        let count = self.count as usize;
+        if 16 <= count {
+            return self;
+        }
+        self.entries[count] = Entry { address: address };
+        self.count = self.count + 1;
+        self
+    }
+
+    // The address at a place is taken out.
+    fn remove_at(mut self, at: usize) -> Self
+        requires { ⌜ (isGood self ≡ true) × (at < self .count) ⌝ }
+        ensures { λ r. ⌜ r ≡ holding (self .kind) (without (held self) at) ⌝ }
+    {
+        let entries = self.entries;
+        let closed = close_place(entries, at);
+        self.entries = closed;
+        self.count = self.count - 1;
+        self
+    }
+
+    // An address is added or removed, or skipped.
+    fn change_one(self, change: Change, address: u16) -> Self
+        requires { ⌜ isGood self ≡ true ⌝ }
+        ensures { λ r. ⌜ r ≡ holding (self .kind) (changed change (held self) address) ⌝ }
+    {
+        if address == 0 {
+            return self;
+        }
+        let place = self.find_from(0, address);
+        match change {
+            Change::Add => match place {
+                Place::At(_) => self,
+                Place::Nowhere => self.append(address),
+            },
+            Change::Remove => match place {
+                Place::At(at) => self.remove_at(at),
+                Place::Nowhere => self,
+            },
+        }
+    }
+
+    // Each address of a message in turn.
+    fn change_all(mut self, change: Change, message: &[u8]) -> Self
+        requires { ⌜ isGood self ≡ true ⌝ }
+        ensures { λ r. ⌜ r ≡ holding (self .kind) (changedAll change (held self) (addresses (drop 1 (now (message .entry))))) ⌝ }
+    {
+        let mut at = 1;
+        while at + 1 < message.len() {
+            let address = read16(message, at);
+            self = self.change_one(change, address);
+            at += 2;
+        }
+        self
+    }
+
+    // The filter with its status.
+    fn report(self) -> FilterStep
+        ensures { λ r. ⌜ r ≡ reporting self ⌝ }
+    {
+        let kind = self.kind;
+        FilterStep {
+            filter: self,
+            answer: FilterAnswer::Status {
+                kind: kind,
+                count: self.count,
+            },
+        }
+    }
+
+    // The filter as it was, with a refusal.
+    fn refuse(self, refusal: FilterRefusal) -> FilterStep
+        ensures { λ r. ⌜ r ≡ refusing self refusal ⌝ }
+    {
+        FilterStep {
+            filter: self,
+            answer: FilterAnswer::Refused(refusal),
+        }
+    }
+
+    // A filter message of any octets.
+    pub fn control(mut self, message: &[u8]) -> FilterStep
+        ensures { λ r. ⌜ r ≡ controlled self (now (message .entry)) ⌝ }
+    {
+        if self.is_good() {
+            let request = request_of(message);
+            match request {
+                Request::SetType(kind) => {
+                    self = Filter::empty(kind);
+                    self.report()
+                }
+                Request::Change(change) => {
+                    self = self.change_all(change, message);
+                    self.report()
+                }
+                Request::Refused(refusal) => self.refuse(refusal),
+            }
+        } else {
+            self.refuse(FilterRefusal::BadState)
+        }
+    }
+
+    // The source address of a network message heard from the proxy client.
+    pub fn learn(mut self, source: u16) -> FilterStep
+        ensures { λ r. ⌜ r ≡ learned self source ⌝ }
+    {
+        if self.is_good() {
+            if is_unicast(source) {
+                let kind = self.kind;
+                self = self.change_one(change_for(kind), source);
+                self.report()
+            } else {
+                self.refuse(FilterRefusal::NotUnicast)
+            }
+        } else {
+            self.refuse(FilterRefusal::BadState)
+        }
+    }
+
+    // Whether a network message with a destination address is passed on to the proxy client.
+    pub fn pass(self, destination: u16) -> PassAnswer
+        ensures { λ r. ⌜ r ≡ passing self destination ⌝ }
+    {
+        if self.is_good() {
+            if destination == 0 {
+                return PassAnswer::DoesNotPass;
+            }
+            let kind = self.kind;
+            let place = self.find_from(0, destination);
+            return pass_answer(kind, place);
+        }
+        PassAnswer::BadState
+    }
+}
