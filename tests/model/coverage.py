@@ -51,7 +51,7 @@ def orders():
     required += pairs("OP", "11", "14 09 10") + pairs("OP", "09", "10")
     required += pairs("SN", "11", "14 04 13") + pairs("CL", "11", "14 04")
     required += pairs("XR", "11", "14 26 21 22 23 24 25 M T") + pairs("XR", "26", "21 22 23 25 M T")
-    required += pairs("XR", "21", "22 23 24") + pairs("XR", "22", "23 24 25") + pairs("XR", "23", "25")
+    required += pairs("XR", "21", "22 23 24") + pairs("XR", "22", "23 24 25") + pairs("XR", "23", "24 25")
     required += pairs("XR", "24", "25") + pairs("FM", "32", "33") + pairs("FM", "33", "34")
     required += pairs("BR", "52", "53") + pairs("BR", "53", "54 55 57") + pairs("BR", "54", "55 57") + pairs("BR", "55", "57")
     required += pairs("PR", "42", "44") + pairs("PR", "43", "44") + pairs("PR", "44", "45")
