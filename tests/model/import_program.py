@@ -65,13 +65,18 @@ class Import:
         return ",".join([str(index + 1), wide(link_id, 8), wide(answer[2], 2)] + values)
 
 
-def answer_log(text):
-    """All that is written for all that is read."""
+def log_answers(text):
+    """Each line written, with the number of the line read that it is for: 0 for the header, one past the last for the end."""
     program = Import()
-    written = [HEADER]
-    for line_number, line in enumerate(split_lines(text), 1):
+    lines = split_lines(text)
+    written = [(0, HEADER)]
+    for line_number, line in enumerate(lines, 1):
         answer = program.answer(line_number, line)
         if answer is not None:
-            written.append(answer)
-    written.extend("?,%d" % socket for socket in sorted(program.awaited))
-    return "".join(line + "\n" for line in written).encode("ascii")
+            written.append((line_number, answer))
+    return written + [(len(lines) + 1, "?,%d" % socket) for socket in sorted(program.awaited)]
+
+
+def answer_log(text):
+    """All that is written for all that is read."""
+    return "".join(line + "\n" for _, line in log_answers(text)).encode("ascii")

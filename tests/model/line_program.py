@@ -14,14 +14,19 @@ def is_message(line):
     return len(line) <= 2 * LONGEST_MESSAGE and DIGITS.fullmatch(line) is not None
 
 
-def answer_lines(text):
-    """All that is written for all that is read. A line that is no message spends no number."""
+def line_answers(text):
+    """Each line written, with the number of the line read that it is for. A line that is no message spends no number."""
     written, number = [], 0
-    for line in split_lines(text):
+    for line_number, line in enumerate(split_lines(text), 1):
         if not is_message(line):
-            written.append("!11")
+            written.append((line_number, "!11"))
             continue
         message = bytes.fromhex(line.decode("ascii"))
-        written.extend(hexadecimal(frame) for frame in cut(LINK_ID, number, message))
+        written.extend((line_number, hexadecimal(frame)) for frame in cut(LINK_ID, number, message))
         number = (number + 1) % NUMBERS
-    return "".join(line + "\n" for line in written).encode("ascii")
+    return written
+
+
+def answer_lines(text):
+    """All that is written for all that is read."""
+    return "".join(line + "\n" for _, line in line_answers(text)).encode("ascii")

@@ -151,7 +151,12 @@ class BeaconSection:
     def order_of_state(self):
         """The same call in a phase above 2 and in a good state."""
         self.set_state()
-        line, good = self.some_line(), self.state_line()
+        line = self.some_line()
+        if self.chance.happens(20):
+            # A beacon that both rules report.
+            self.script.say(self.set_line(self.chance.between(1, 2), self.state().index, 1))
+            line = self.line(self.beacon(self.state().index, self.chance.octet() & 0xFC), 1, 1)
+        good = self.state_line()
         bad = self.set_line(self.chance.pick((3, 4, 0x80, 0xFF)), self.state().index, self.state().in_progress)
         self.script.order(line, line, [bad], [good])
 

@@ -27,7 +27,7 @@ class LineSection:
         self.chance = script.chance
 
     def step(self):
-        self.chance.weighted(((35, self.damaged), (10, self.no_name), (25, self.edge), (10, self.write), (12, self.show), (6, self.fill),
+        self.chance.weighted(((35, self.damaged), (10, self.no_name), (16, self.edge), (10, self.write), (12, self.show), (6, self.fill),
                               (10, self.set_record), (6, self.set_transfer), (6, self.set_filter), (6, self.set_key_state),
                               (5, self.set_view), (12, self.show_state), (1, self.start)))()
 

@@ -1,6 +1,6 @@
 """Scripts for provisioning messages and the view."""
+from model.generator.messages import good_message
 from model.generator.script import labelled, operation
-from model.provisioning import FIELD_LENGTHS
 
 PROHIBITED = {
     "no elements": (1, {1: (0,)}),
@@ -34,19 +34,7 @@ class ProvisioningSection:
                               (10, self.order), (25, self.view), (25, self.view_read), (10, self.view_edge)))()
 
     def message(self, message_type, values=None):
-        """A message with no prohibited value, but for those given by place; reserved values everywhere else."""
-        octets = bytearray([message_type]) + self.chance.octets(sum(FIELD_LENGTHS[message_type]))
-        if message_type == 1:
-            octets[1] = self.chance.pick((1, 2, 0xFF, self.chance.between(1, 0xFF)))
-            octets[4:6] = bytes([self.chance.below(2), self.chance.below(2)])
-        if message_type == 2:
-            octets[2:4] = bytes([self.chance.below(2), self.chance.below(4)])
-            octets[4:6] = bytes([self.chance.octet(), self.chance.between(1, 255)]) if octets[3] > 1 else bytes(2)
-        if message_type == 9:
-            octets[1] = self.chance.pick((1, 8, 9, 10, 0xFF))
-        for place, choices in (values or {}).items():
-            octets[place] = self.chance.pick(choices)
-        return bytes(octets)
+        return good_message(self.chance, message_type, values)
 
     def read(self, octets, label=None, expected=None):
         return self.script.call(operation("PR", octets), label, expected)

@@ -147,7 +147,7 @@ class ProxySection:
         position = self.chance.pick((MIDDLE, LAST)) if transfer.held else self.chance.pick((WHOLE, FIRST))
         position = self.chance.weighted(((70, position), (30, self.chance.below(4))))
         message_type = transfer.message_type if transfer.held else self.chance.below(4)
-        message_type = self.chance.weighted(((70, message_type), (20, self.chance.below(4)), (10, self.chance.between(4, 0x3F))))
+        message_type = self.chance.weighted(((60, message_type), (30, self.chance.below(4)), (10, self.chance.between(4, 0x3F))))
         count = self.chance.weighted(((84, self.chance.between(1, 40)), (10, 0), (6, LONGEST_MESSAGE + 1)))
         return self.piece(position, message_type, count)
 
@@ -182,16 +182,26 @@ class ProxySection:
     def order_of_connection(self):
         self.script.say(self.set_line(True))
         piece = self.some_piece()
+        if self.chance.happens(8):
+            piece = self.piece(self.chance.pick((WHOLE, FIRST)), self.chance.below(4), LONGEST_MESSAGE + 1)
         self.script.order(self.line(piece), self.line(piece), [self.set_line(False)], [self.set_line(True)])
 
     def order_of_data(self):
         self.some_state()
         piece = self.some_piece() + b"\x00"
+        if self.chance.happens(25):
+            other = (self.hold() + self.chance.between(1, 3)) % 4
+            piece = self.piece(self.chance.pick((MIDDLE, LAST)), other, 2)
+        elif self.chance.happens(25):
+            piece = self.piece(self.chance.below(4), self.chance.between(4, 0x3F), 2)
         self.script.order(self.line(piece[:1]), self.line(piece))
 
     def order_of_type(self):
         self.some_state()
         piece = self.some_piece()
+        if self.chance.happens(25):
+            other = (self.hold() + self.chance.between(1, 3)) % 4
+            piece = self.piece(self.chance.pick((MIDDLE, LAST)), other, 2)
         reserved = bytes([piece[0] & 0xC0 | self.chance.between(4, 0x3F)]) + piece[1:]
         self.script.order(self.line(reserved), self.line(piece))
 

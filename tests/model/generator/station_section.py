@@ -316,9 +316,10 @@ class StationSection:
         self.script.order(self.line(other), self.line(frame))
 
     def order_of_local(self):
-        """A Link ID in use, for a socket in use and for a free one."""
+        """A Link ID in use, for a socket in use or none at all and for a free one."""
         used, free = self.with_use(OPENING, OPENED), self.with_use(FREE)
         if used and free:
             link_id = self.records()[self.chance.pick(used)].link_id
-            self.script.order(operation("OP", (self.chance.pick(used) + 1, 2), (link_id, 8)),
+            wrong = self.chance.pick((self.chance.pick(used) + 1, self.chance.pick(WRONG_SOCKETS)))
+            self.script.order(operation("OP", (wrong, 2), (link_id, 8)),
                               operation("OP", (self.chance.pick(free) + 1, 2), (link_id, 8)))
