@@ -33,14 +33,18 @@ class LineSection:
 
     def malformed(self, line, label):
         """A malformed line changes nothing."""
-        if self.script.say(line) == "?":
+        answer = self.script.say(line)
+        if answer == "?":
             self.script.met[labelled("--", "?", label)] += 1
-        if self.chance.happens(60):
+        if answer.startswith("!") or self.chance.happens(60):
             self.script.say("ZH")
 
     def right(self, line, label):
-        if self.script.say(line) != "?":
+        answer = self.script.say(line)
+        if answer != "?":
             self.script.met[labelled("--", "", label)] += 1
+        if answer.startswith("!"):
+            self.script.say("ZH")
 
     # Malformed lines.
 
