@@ -68,6 +68,10 @@ def complete_half(chance, records):
     return with_half(chance, records, length=length, marks=all_marks(length))
 
 
+def with_length_too_large(chance, records):
+    return with_half(chance, records, length=chance.pick((1470, 1471, 0xFFFF)), marks=1)
+
+
 def marked_past_the_end(chance, records):
     length = chance.pick((21, 43, 44, 66, 1446))
     last = last_segment_number(length)
@@ -89,22 +93,26 @@ def open_with(chance, records, **fields):
     return Record(OPENED, unused_link_id(chance, records), **fields)
 
 
+def our_number(chance):
+    return chance.pick((0x00, 0x7F, chance.below(0x80)))
+
+
 # Each kind makes, from chance and the other records, the record that is bad.
 BAD_RECORDS = {
-    "two in use with one Link ID, the second opening": lambda c, r: shared_link_id(c, r, OPENING),
-    "two in use with one Link ID, the second open": lambda c, r: shared_link_id(c, r, OPENED),
-    "free with a Link ID": lambda c, r: Record(FREE, c.pick((1, 0x23AF5850, 0xFFFFFFFF))),
-    "free and otherwise not blank": lambda c, r: not_blank(c, FREE, 0),
-    "opening and not blank": lambda c, r: not_blank(c, OPENING, unused_link_id(c, r)),
-    "sending number outside its half": lambda c, r: open_with(c, r, next_number=c.pick((0x80, 0xFF, c.between(0x80, 0xFF)))),
-    "last delivered outside its half": lambda c, r: open_with(c, r, last_delivered=c.pick((0x00, 0x7F, c.below(0x80)))),
-    "half-received number outside its half": lambda c, r: with_half(c, r, number=c.pick((0x00, 0x7F, c.below(0x80)))),
+    "two in use with one Link ID, the second opening": lambda chance, records: shared_link_id(chance, records, OPENING),
+    "two in use with one Link ID, the second open": lambda chance, records: shared_link_id(chance, records, OPENED),
+    "free with a Link ID": lambda chance, records: Record(FREE, chance.pick((1, 0x23AF5850, 0xFFFFFFFF))),
+    "free and otherwise not blank": lambda chance, records: not_blank(chance, FREE, 0),
+    "opening and not blank": lambda chance, records: not_blank(chance, OPENING, unused_link_id(chance, records)),
+    "sending number outside its half": lambda chance, records: open_with(chance, records, next_number=device_number(chance)),
+    "last delivered outside its half": lambda chance, records: open_with(chance, records, last_delivered=our_number(chance)),
+    "half-received number outside its half": lambda chance, records: with_half(chance, records, number=our_number(chance)),
     "half-received without segment 0": without_segment_zero,
-    "half-received with no mark": lambda c, r: with_half(c, r, marks=0),
+    "half-received with no mark": lambda chance, records: with_half(chance, records, marks=0),
     "half-received with none missing": complete_half,
-    "half-received with L 0": lambda c, r: with_half(c, r, length=0, marks=c.pick((0, 1))),
-    "half-received with L above 1,469": lambda c, r: with_half(c, r, length=c.pick((1470, 1471, 0xFFFF)), marks=1),
-    "half-received of a single segment": lambda c, r: with_half(c, r, length=c.between(1, 20), marks=1),
+    "half-received with L 0": lambda chance, records: with_half(chance, records, length=0, marks=chance.pick((0, 1))),
+    "half-received with L above 1,469": with_length_too_large,
+    "half-received of a single segment": lambda chance, records: with_half(chance, records, length=chance.between(1, 20), marks=1),
     "half-received marked past SegN": marked_past_the_end,
     "half-received numbered as the last delivered": numbered_as_delivered,
 }

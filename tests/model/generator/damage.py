@@ -10,7 +10,8 @@ def short_frame(chance, link_id):
 def long_frame(chance, link_id):
     """30 octets and more, otherwise a right Continuation or an unknown opcode."""
     kind = chance.pick((CONTINUATION, CONTROL))
-    return frame_octets(link_id, chance.between(0x80, 0xFF), kind, chance.between(3, 63), chance.octets(chance.pick((24, 25, 60))))
+    octets = chance.octets(chance.pick((24, 25, 60)))
+    return frame_octets(link_id, chance.between(0x80, 0xFF), kind, chance.between(3, 63), octets)
 
 
 def start_frame(chance, link_id, length=None, last_segment=None, segment=None):
@@ -46,6 +47,20 @@ def other_length(chance, link_id):
     return bytes(frame)
 
 
+def length_too_large(chance, link_id):
+    return start_frame(chance, link_id, chance.pick((1470, 1471, 0x8000, 0xFFFF)), chance.pick((0, 63)), 20)
+
+
+def acknowledgement(chance, link_id, high_bits, lengths):
+    octets = chance.octets(chance.pick(lengths))
+    return frame_octets(link_id, chance.below(0x80), ACKNOWLEDGEMENT, chance.pick(high_bits), octets)
+
+
+def continuation(chance, link_id, indexes, lengths):
+    octets = chance.octets(chance.pick(lengths))
+    return frame_octets(link_id, chance.between(0x80, 0xFF), CONTINUATION, chance.pick(indexes), octets)
+
+
 def control(chance, link_id, opcode, lengths):
     return frame_octets(link_id, chance.octet(), CONTROL, opcode, chance.octets(chance.pick(lengths)))
 
@@ -54,21 +69,21 @@ def control(chance, link_id, opcode, lengths):
 DAMAGES = {
     "fewer than 6 octets": short_frame,
     "more than 29 octets": long_frame,
-    "Acknowledgement with high bits": lambda c, i: frame_octets(i, c.below(0x80), ACKNOWLEDGEMENT, c.pick((1, 32, 63)), b""),
-    "Acknowledgement with an octet after": lambda c, i: frame_octets(i, c.below(0x80), ACKNOWLEDGEMENT, 0, c.octets(c.pick((1, 2, 23)))),
+    "Acknowledgement with high bits": lambda chance, link_id: acknowledgement(chance, link_id, (1, 32, 63), (0,)),
+    "Acknowledgement with an octet after": lambda chance, link_id: acknowledgement(chance, link_id, (0,), (1, 2, 23)),
     "Start without L and check": cut_start,
-    "Start with L 0": lambda c, i: start_frame(c, i, 0, 0, c.pick((0, 1))),
-    "Start with L above 1,469": lambda c, i: start_frame(c, i, c.pick((1470, 1471, 0x8000, 0xFFFF)), c.pick((0, 63)), 20),
-    "Start with SegN too small": lambda c, i: other_last_segment(c, i, -1),
-    "Start with SegN too large": lambda c, i: other_last_segment(c, i, 1),
-    "Start with segment 0 too short": lambda c, i: other_segment_zero(c, i, -1),
-    "Start with segment 0 too long": lambda c, i: other_segment_zero(c, i, 1),
+    "Start with L 0": lambda chance, link_id: start_frame(chance, link_id, 0, 0, chance.pick((0, 1))),
+    "Start with L above 1,469": length_too_large,
+    "Start with SegN too small": lambda chance, link_id: other_last_segment(chance, link_id, -1),
+    "Start with SegN too large": lambda chance, link_id: other_last_segment(chance, link_id, 1),
+    "Start with segment 0 too short": lambda chance, link_id: other_segment_zero(chance, link_id, -1),
+    "Start with segment 0 too long": lambda chance, link_id: other_segment_zero(chance, link_id, 1),
     "Start with another L": other_length,
-    "Continuation numbered 0": lambda c, i: frame_octets(i, c.between(0x80, 0xFF), CONTINUATION, 0, c.octets(c.pick((1, 23)))),
-    "Continuation with no octet": lambda c, i: frame_octets(i, c.between(0x80, 0xFF), CONTINUATION, c.pick((1, 63)), b""),
-    "Open of another length": lambda c, i: control(c, i, 0, (0, 1, 15, 17, 23)),
-    "Ack of another length": lambda c, i: control(c, i, 1, (1, 2, 16, 23)),
-    "Close of another length": lambda c, i: control(c, i, 2, (0, 2, 16, 23)),
+    "Continuation numbered 0": lambda chance, link_id: continuation(chance, link_id, (0,), (1, 23)),
+    "Continuation with no octet": lambda chance, link_id: continuation(chance, link_id, (1, 63), (0,)),
+    "Open of another length": lambda chance, link_id: control(chance, link_id, 0, (0, 1, 15, 17, 23)),
+    "Ack of another length": lambda chance, link_id: control(chance, link_id, 1, (1, 2, 16, 23)),
+    "Close of another length": lambda chance, link_id: control(chance, link_id, 2, (0, 2, 16, 23)),
 }
 
 

@@ -8,10 +8,10 @@ from model.record_text import transfer_text
 WRONG_BUFFERS = (0, 1, RIGHT_BUFFER - 1, RIGHT_BUFFER + 1, 0x0600)
 POSITIONS = {"whole": WHOLE, "first": FIRST, "middle": MIDDLE, "last": LAST}
 BAD_TRANSFERS = {
-    "half transfer of 0 octets": lambda c: (True, c.below(4), 0),
-    "half transfer of over 1,469 octets": lambda c: (True, c.below(4), c.pick((1470, 1471, 0xFFFF))),
-    "half transfer of type above 3": lambda c: (True, c.pick((4, 0x3F, 0xFF)), c.between(1, LONGEST_MESSAGE)),
-    "half transfer while disconnected": lambda c: (False, c.below(4), c.between(1, LONGEST_MESSAGE)),
+    "half transfer of 0 octets": lambda chance: (True, chance.below(4), 0),
+    "half transfer of over 1,469 octets": lambda chance: (True, chance.below(4), chance.pick((1470, 1471, 0xFFFF))),
+    "half transfer of type above 3": lambda chance: (True, chance.pick((4, 0x3F, 0xFF)), chance.between(1, LONGEST_MESSAGE)),
+    "half transfer while disconnected": lambda chance: (False, chance.below(4), chance.between(1, LONGEST_MESSAGE)),
 }
 WRITE_WRONG = ("output too short", "size below 20", "size above 514", "type above 3", "past the last piece", "no message",
                "message too long")

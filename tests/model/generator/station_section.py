@@ -1,11 +1,11 @@
 """Scripts for the station: receive, open, send, close."""
-from model.frames import ACKNOWLEDGEMENT, CONTINUATION, CONTROL, START, frame_octets, segment_frame
+from model.frames import CONTINUATION, START, segment_frame
 from model.generator.bad_records import BAD_RECORDS, LINK_IDS, device_number, good_record, unused_link_id
 from model.generator.chance import EDGE_LENGTHS, LONG_LENGTHS, WRONG_LENGTHS
 from model.generator.damage import DAMAGES, any_damage, unfit
-from model.generator.device import Sending
 from model.generator.script import RIGHT_AREA, labelled, operation
-from model.generator.unlike_repeats import UNLIKE, HalfReceived
+from model.generator.station_frames import StationFrames
+from model.generator.unlike_repeats import UNLIKE
 from model.station import AREA_LENGTH, FREE, OPENED, OPENING, SOCKETS, Half, Record, all_marks
 
 WRONG_AREAS = (0, 1, 1469, AREA_LENGTH - 1, AREA_LENGTH + 1, 0x2E00)
@@ -22,16 +22,7 @@ LABELS = ([labelled("RF", "01", label) for label in DAMAGES] + [labelled("RF", "
           + [labelled(name, "14", label) for name in STATION_CALLS for label in BAD_RECORDS])
 
 
-class StationSection:
-    def __init__(self, script):
-        self.script = script
-        self.chance = script.chance
-        self.sending = {}
-        self.delivered = []
-
-    def records(self):
-        return self.script.program.records
-
+class StationSection(StationFrames):
     def step(self):
         self.chance.weighted((
             (40, self.segment), (9, self.local_open), (12, self.control), (8, self.send), (9, self.acknowledgement),
@@ -50,29 +41,6 @@ class StationSection:
     def line(self, frame, area=RIGHT_AREA):
         return operation("RF", (area, 4), frame)
 
-    def with_use(self, *uses):
-        return [index for index, record in enumerate(self.records()) if record.use in uses]
-
-    def some_link_id(self):
-        """Mostly one in use."""
-        used = self.with_use(OPENING, OPENED)
-        if used and self.chance.happens(85):
-            return self.records()[self.chance.pick(used)].link_id
-        return self.chance.pick(LINK_IDS)
-
-    def next_segment(self):
-        """The next frame of the message that some socket's module is sending; None if no link is open."""
-        opened = self.with_use(OPENED) or self.with_use(OPENING)
-        if not opened:
-            return None
-        index = self.chance.pick(opened)
-        record = self.records()[index]
-        sending = self.sending.get(index)
-        if sending is None or not sending.coming or sending.frames[0][:4] != record.link_id.to_bytes(4, "big"):
-            sending = Sending(self.chance, record.link_id, record.last_delivered)
-            self.sending[index] = sending
-        return sending.next_frame()
-
     def segment(self):
         frame = self.next_segment()
         if frame is None:
@@ -82,25 +50,9 @@ class StationSection:
             self.delivered = (self.delivered + [frame])[-20:]
         return None
 
-    def control_frame(self):
-        """Ack mostly; the number octet is ignored on reading."""
-        link_id = self.some_link_id()
-        opcode = self.chance.weighted(((60, 1), (14, 2), (10, 0), (16, self.chance.pick((3, 4, 63, self.chance.between(3, 63))))))
-        count = {0: 16, 1: 0, 2: 1}.get(opcode, self.chance.below(24))
-        number = 0 if self.chance.happens(50) else self.chance.octet()
-        return frame_octets(link_id, number, CONTROL, opcode, self.chance.octets(count))
-
     def control(self):
         frame = self.control_frame()
         self.receive(frame, "an Open", "!05")
-
-    def acknowledgement_frame(self):
-        link_id = self.some_link_id()
-        numbers = [record.next_number for record in self.records() if record.link_id == link_id]
-        right = numbers[0] if numbers else 0
-        other = (right + self.chance.pick((1, 127, self.chance.below(128)))) % 128
-        number = self.chance.weighted(((60, right), (25, other), (10, right | 0x80), (5, self.chance.octet())))
-        return frame_octets(link_id, number, ACKNOWLEDGEMENT, 0, b"")
 
     def acknowledgement(self):
         frame = self.acknowledgement_frame()
@@ -110,11 +62,6 @@ class StationSection:
         if frame[4] == 0x7F:
             return self.receive(frame, "number 0x7F", "A")
         return self.receive(frame, "another number" if True in outstanding else "none outstanding", "!12")
-
-    def half_received(self):
-        """Some half-received message, or None."""
-        halves = [index for index, record in enumerate(self.records()) if record.use == OPENED and record.half is not None]
-        return HalfReceived(self.chance, self.script.program, self.chance.pick(halves)) if halves else None
 
     def repeat(self):
         half = self.half_received()
@@ -128,18 +75,6 @@ class StationSection:
         frame = UNLIKE[label](half)
         return self.receive(frame, label, "!07") if frame else None
 
-    def again_frame(self):
-        """A segment with a last delivered number, whatever it carries; or a frame of some message delivered before."""
-        last = [record for record in self.records() if record.last_delivered is not None]
-        if not last or self.delivered and self.chance.happens(20):
-            return self.chance.pick(self.delivered) if self.delivered else self.control_frame()
-        record = self.chance.pick(last)
-        if self.chance.happens(40):
-            message = self.chance.octets(self.chance.pick(EDGE_LENGTHS))
-            return segment_frame(record.link_id, record.last_delivered, 0, message)
-        octets = self.chance.octets(self.chance.between(1, 23))
-        return frame_octets(record.link_id, record.last_delivered, CONTINUATION, self.chance.between(1, 63), octets)
-
     def again(self):
         self.receive(self.again_frame())
 
@@ -148,40 +83,6 @@ class StationSection:
             label = self.script.in_turn("damage", list(DAMAGES))
             return self.receive(DAMAGES[label](self.chance, self.some_link_id()), label, "!01")
         return self.receive(any_damage(self.chance, self.any_frame()))
-
-    def other_half_segment(self):
-        """A segment numbered below 0x80."""
-        octets = self.chance.octets(self.chance.between(1, 23))
-        number = self.chance.pick((0x00, 0x7F, self.chance.below(0x80)))
-        if self.chance.happens(50):
-            return segment_frame(self.some_link_id(), number, 0, octets)
-        return frame_octets(self.some_link_id(), number, CONTINUATION, self.chance.between(1, 63), octets)
-
-    def stray_continuation(self):
-        octets = self.chance.octets(self.chance.between(1, 23))
-        return frame_octets(self.some_link_id(), device_number(self.chance), CONTINUATION, self.chance.between(1, 63), octets)
-
-    def unlike_frame(self):
-        half = self.half_received()
-        frame = UNLIKE[self.chance.pick(list(UNLIKE))](half) if half else None
-        return frame or self.stray_continuation()
-
-    def repeat_frame(self):
-        half = self.half_received()
-        return half.repeat() if half else self.stray_continuation()
-
-    def single_with_wrong_check(self):
-        message = self.chance.octets(self.chance.between(1, 20))
-        frame = bytearray(segment_frame(self.some_link_id(), device_number(self.chance), 0, message))
-        frame[8] = self.chance.other_octet(frame[8])
-        return bytes(frame)
-
-    def any_frame(self):
-        make = self.chance.weighted((
-            (20, self.next_segment), (15, self.control_frame), (15, self.acknowledgement_frame), (10, self.repeat_frame),
-            (10, self.unlike_frame), (10, self.again_frame), (8, self.other_half_segment), (8, self.stray_continuation),
-            (8, self.single_with_wrong_check)))
-        return make() or self.control_frame()
 
     def any_frame_sent(self):
         frame = self.any_frame()
