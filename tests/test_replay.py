@@ -25,7 +25,8 @@ class Stored(unittest.TestCase):
     def test_samples_and_figures(self):
         operations = sample_operations()
         frames = [frame for step in SAMPLES["steps"] for frame in step["frames"]]
-        self.assertEqual(sum(line.startswith("RF") for line, _ in operations) + sum(line[0] == "W" for line, _ in operations), len(frames))
+        played = sum(line.startswith(("RF", "W")) for line, _ in operations)
+        self.assertEqual(played, len(frames))
         self.run_all(operations)
 
     def test_sample_beacons(self):

@@ -14,11 +14,12 @@ UPDATES = ["%s, B = I + %d, flag %d" % (state, step, flag) for state in ("normal
 
 LABELS = ([labelled("BR", "57", label) for label in OUT_OF_WINDOW] + [labelled("BR", "55", label) for label in WRONG_KEY]
           + [labelled("BR", "B", label) for label in PHASES + UPDATES]
-          + [labelled("BR", "53", "type %d of %d octets" % (kind, count)) for kind, counts in sorted(WRONG_LENGTHS.items()) for count in counts]
+          + [labelled("BR", "53", "type %d of %d octets" % (kind, count)) for kind in (0, 1) for count in WRONG_LENGTHS[kind]]
           + [labelled("BR", "U", label) for label in ("without hash", "with hash")]
           + [labelled("BR", "B", "I = B = FFFFFFFF")]
           + [labelled("KT", answer, "target %d in phase %d" % (target, phase)) for answer, target, phase in
-             (("K00", 2, 1), ("K00", 2, 2), ("K01", 3, 1), ("K01", 3, 2), ("56", 2, 0), ("56", 3, 0), ("56", 1, 1), ("56", 4, 2), ("56", 0, 2))])
+             (("K00", 2, 1), ("K00", 2, 2), ("K01", 3, 1), ("K01", 3, 2), ("56", 2, 0), ("56", 3, 0), ("56", 1, 1), ("56", 4, 2),
+              ("56", 0, 2))])
 
 
 class BeaconSection:
@@ -28,8 +29,8 @@ class BeaconSection:
 
     def step(self):
         self.chance.weighted((
-            (40, self.secure), (10, self.device), (10, self.wrong_length), (6, self.wrong_type), (12, self.set_state), (8, self.local_start),
-            (12, self.local_set), (12, self.order_of_state), (14, self.order_of_beacon), (6, self.last_index), (2, self.empty)))()
+            (40, self.secure), (10, self.device), (10, self.wrong_length), (6, self.wrong_type), (12, self.set_state),
+            (8, self.local_start), (12, self.local_set), (12, self.order_of_state), (14, self.order_of_beacon), (6, self.last_index), (2, self.empty)))()
 
     def state(self):
         return self.script.program.key_state
@@ -146,16 +147,19 @@ class BeaconSection:
         octets = self.chance.weighted((
             (60, self.beacon(self.received())), (8, b""), (8, b"\x02\x00"), (8, b"\x01" + self.chance.octets(20)),
             (8, b"\x00" + self.chance.octets(18)), (8, self.beacon(self.chance.below(LAST_INDEX)))))
-        return self.line(octets, int(self.chance.happens(85)), self.chance.weighted(((80, self.right_key()), (20, self.chance.below(2)))))
+        new_key = self.right_key() if self.chance.happens(80) else self.chance.below(2)
+        return self.line(octets, int(self.chance.happens(85)), new_key)
 
     def order_of_state(self):
         """The same call in a phase above 2 and in a good state."""
         self.set_state()
         line = self.some_line()
-        if self.chance.happens(20):
-            # A beacon that both rules report.
-            self.script.say(self.set_line(self.chance.between(1, 2), self.state().index, 1))
-            line = self.line(self.beacon(self.state().index, self.chance.octet() & 0xFC), 1, 1)
+        if self.chance.happens(25):
+            # A beacon that revokes the old key, and that the IV rule reports as nothing, "reset sequence" or "recovery wanted".
+            in_progress, step = self.script.in_turn("both reports", ((0, 0), (1, 0), (0, 2)))
+            index = min(self.state().index, LAST_INDEX - 2)
+            self.script.say(self.set_line(self.chance.between(1, 2), index, in_progress))
+            line = self.line(self.beacon(index + step, self.chance.octet() & 0xFC), 1, 1)
         good = self.state_line()
         bad = self.set_line(self.chance.pick((3, 4, 0x80, 0xFF)), self.state().index, self.state().in_progress)
         self.script.order(line, line, [bad], [good])

@@ -2,7 +2,8 @@
 from model.frames import LONGEST_MESSAGE
 from model.generator.chance import EDGE_LENGTHS, LONG_LENGTHS
 
-NO_MESSAGES = (b"", b"0", b"123", b"0g", b"g0", b" 00", b"00 ", b"00\r", b"0 0", b"!11", b"0x00", b"00\x00", b"\xff\xff", b"@@", b"::", b"``", b"GG", b"//")
+NO_MESSAGES = (b"", b"0", b"123", b"0g", b"g0", b" 00", b"00 ", b"00\r", b"0 0", b"!11", b"0x00",
+               b"00\x00", b"\xff\xff", b"@@", b"::", b"``", b"GG", b"//")
 
 
 def plain_message(length, first):

@@ -9,16 +9,17 @@ from model.script_line import LONGEST_LINE, digits_of
 from model.storage import SIZES
 
 # Names that are no operation, the right ones in other letters among them.
-NO_NAMES = ("", "R", "Z", "zz", "Zz", "rf", "Rf", "QQ", "ZY", "AA", "A0", "00", "  ", "?", "!11", "ZH ", " ZH", "\t", "ZZ\r", "\xff\xff")
+NO_NAMES = ("", "R", "Z", "zz", "Zz", "rf", "Rf", "QQ", "ZY", "AA", "A0", "00", "  ", "?", "!11", "ZH ", " ZH", "\t", "ZZ\r",
+            "\xff\xff")
 WRONG_CHARACTERS = ("a", "f", "g", "G", " ", ":", "@", "/", "`", "\r", "\x00", "\x80", "\xff", "-")
 SHOWN_COUNT = 0x0FA0
 DAMAGES = ("a character that is no digit", "one digit more", "one digit less", "nothing after the name", "a flag above 01")
-EDGES = ("octets up to 8,192 characters", "octets past 8,192 characters", "write past the end", "write up to the end",
-         "show past the end", "show up to the end", "show too many", "show the most", "show none", "write none", "lent too long",
-         "socket out of range", "use above 02", "view of too many octets", "view of the most octets", "read of no octets")
+PAST = ("octets past 8,192 characters", "write past the end", "show past the end", "show too many", "lent too long",
+        "socket out of range", "use above 02", "view of too many octets", "read of no octets")
+WITHIN = ("octets up to 8,192 characters", "write up to the end", "write none", "show up to the end", "show the most", "show none",
+          "view of the most octets")
 
-LABELS = [labelled("--", "?", label) for label in DAMAGES] + [labelled("--", "?" if "past" in label or "too" in label or label in (
-    "socket out of range", "use above 02", "read of no octets") else "", label) for label in EDGES]
+LABELS = [labelled("--", "?", label) for label in DAMAGES + PAST] + [labelled("--", "", label) for label in WITHIN]
 
 
 class LineSection:
@@ -27,9 +28,10 @@ class LineSection:
         self.chance = script.chance
 
     def step(self):
-        self.chance.weighted(((35, self.damaged), (10, self.no_name), (16, self.edge), (10, self.write), (12, self.show), (6, self.fill),
-                              (10, self.set_record), (6, self.set_transfer), (6, self.set_filter), (6, self.set_key_state),
-                              (5, self.set_view), (12, self.show_state), (1, self.start)))()
+        self.chance.weighted((
+            (35, self.damaged), (10, self.no_name), (16, self.edge), (10, self.write), (12, self.show), (6, self.fill),
+            (10, self.set_record), (6, self.set_transfer), (6, self.set_filter), (6, self.set_key_state), (5, self.set_view),
+            (12, self.show_state), (1, self.start)))()
 
     def malformed(self, line, label):
         """A malformed line changes nothing."""
@@ -51,8 +53,9 @@ class LineSection:
     def some_line(self, name):
         """A line with all its arguments, whatever they are."""
         form = OPERATIONS[name][0]
-        arguments = [(self.chance.below(2) if is_flag else self.chance.below(16 ** digits), digits) for digits, is_flag in form.fixed]
-        return operation(name, *arguments) + (self.chance.octets(self.chance.below(8)).hex().upper() if form.takes_octets else "")
+        arguments = [(self.chance.below(2 if is_flag else 16 ** digits), digits) for digits, is_flag in form.fixed]
+        octets = self.chance.octets(self.chance.below(8)) if form.takes_octets else b""
+        return operation(name, *arguments, octets)
 
     def damaged(self):
         name = self.script.in_turn("name", sorted(OPERATIONS))
@@ -90,7 +93,7 @@ class LineSection:
     # Edges of the ranges.
 
     def edge(self):
-        label = self.script.in_turn("edge", EDGES)
+        label = self.script.in_turn("edge", PAST + WITHIN)
         storage = self.chance.pick("ABO")
         size = SIZES[storage]
         if label.startswith("octets"):
@@ -108,8 +111,9 @@ class LineSection:
 
     def edge_of_range(self, label):
         if label == "lent too long":
-            name, size = self.chance.pick((("RF", 0x2E00), ("XR", 0x0600), ("WA", 0x1000), ("WS", 0x1000), ("XW", 0x1000), ("WK", 0x1000),
-                                           ("WO", 0x1000), ("WC", 0x1000)))
+            name, storage = self.chance.pick((("RF", "A"), ("XR", "B"), ("WA", "O"), ("WS", "O"), ("XW", "O"), ("WK", "O"),
+                                              ("WO", "O"), ("WC", "O")))
+            size = SIZES[storage]
             return name + digits_of(self.chance.pick((size + 1, 0xFFFF)), 4) + self.some_line(name)[6:]
         if label == "socket out of range":
             name = self.chance.pick(("LS", "LD"))
@@ -182,12 +186,14 @@ class LineSection:
         self.script.say("LD" + digits_of(socket, 2))
 
     def some_record(self):
-        any_octets = lambda count: self.chance.octets(count).hex().upper()
-        flag = lambda: digits_of(self.chance.below(2), 2)
-        return any_octets(5) + flag() + flag() + any_octets(1) + flag() + any_octets(12)
+        octets = bytearray(self.chance.octets(21))
+        for flag in (5, 6, 8):
+            octets[flag] = self.chance.below(2)
+        return operation("", octets)
 
     def set_transfer(self):
-        self.script.say(operation("XS", (self.chance.below(2), 2), (self.chance.below(2), 2), (self.chance.octet(), 2), (self.chance.below(0x10000), 4)))
+        flags = (self.chance.below(2), 2), (self.chance.below(2), 2)
+        self.script.say(operation("XS", *flags, (self.chance.octet(), 2), (self.chance.below(0x10000), 4)))
         self.script.say("XD")
 
     def set_filter(self):
@@ -204,7 +210,8 @@ class LineSection:
         self.script.say("VD")
 
     def show_state(self):
-        self.script.say(self.chance.pick(("LA", "XD", "FD", "KD", "VD", "AH", "BH", "OH", "ZH", "LD0" + str(self.chance.between(1, 8)))))
+        record = operation("LD", (self.chance.between(1, 8), 2))
+        self.script.say(self.chance.pick(("LA", "XD", "FD", "KD", "VD", "AH", "BH", "OH", "ZH", record)))
 
     def start(self):
         self.script.say("ZZ")

@@ -134,7 +134,8 @@ class ProxySection:
         self.read(self.chance.octets(1), "lone first octet", "!21")
 
     def reserved(self):
-        self.read(self.piece(self.chance.below(4), self.chance.pick((4, 0x3F, self.chance.between(4, 0x3F))), self.chance.between(1, 9)))
+        message_type = self.chance.pick((4, 0x3F, self.chance.between(4, 0x3F)))
+        self.read(self.piece(self.chance.below(4), message_type, self.chance.between(1, 9)))
 
     def any_piece(self):
         self.read(self.chance.octets(self.chance.between(0, 40)))

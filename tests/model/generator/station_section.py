@@ -1,5 +1,5 @@
 """Scripts for the station: receive, open, send, close."""
-from model.frames import CONTINUATION, START, segment_frame
+from model.frames import CONTINUATION, START, cut
 from model.generator.bad_records import BAD_RECORDS, LINK_IDS, device_number, good_record, unused_link_id
 from model.generator.chance import EDGE_LENGTHS, LONG_LENGTHS, WRONG_LENGTHS
 from model.generator.damage import DAMAGES, any_damage, unfit
@@ -137,7 +137,7 @@ class StationSection(StationFrames):
         number = device_number(self.chance)
         if number == record.last_delivered:
             return None
-        frames = [segment_frame(record.link_id, number, place, message) for place in range(bin(all_marks(len(message))).count("1"))]
+        frames = cut(record.link_id, number, message)
         missing = self.chance.pick((1, len(frames) - 1, self.chance.between(1, len(frames) - 1)))
         check = frames[0][8] if self.chance.happens(75) else self.chance.other_octet(frames[0][8])
         half = Half(number, len(message), check, all_marks(len(message)) & ~(1 << missing))

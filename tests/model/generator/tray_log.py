@@ -18,8 +18,9 @@ def sample_message(sender, what):
 
 
 # The example tray: each socket's Link ID and, but for the module that never answers, its capabilities.
-TRAY = ((0x23AF5850, "010100010000000000000000"), (0x23AF5851, "010200010100000000000000"), (0x23AF5852, "010100010001000000000000"),
-        (0x23AF5853, "010400010101040008020003"), (0x23AF5854, "010100010000060010000000"), (0x23AF5855, "01FF00010001000000080008"),
+TRAY = ((0x23AF5850, "010100010000000000000000"), (0x23AF5851, "010200010100000000000000"),
+        (0x23AF5852, "010100010001000000000000"), (0x23AF5853, "010400010101040008020003"),
+        (0x23AF5854, "010100010000060010000000"), (0x23AF5855, "01FF00010001000000080008"),
         (0x23AF5856, "010300010100020001040002"), (0x23AF5857, None))
 
 
@@ -40,11 +41,15 @@ def example_lines():
     lines += ["%d %08X" % (socket, link_id) for socket, link_id in enumerate(link_ids, 1)]
     lines += ["# Seven modules acknowledge the opening of their links; that of socket 8 stays silent to the end."] + ack
     lines += ["# The module of socket 1 is the one of the standard's published samples; it sends its capabilities.", answer[0]]
-    lines += ["# Frames come mixed and may be heard more than once: a repeat writes nothing.", answer[2], answer[1], answer[0], answer[2]]
-    lines += ["# A bit of socket 5's message was turned over on the way, and its check octet shows it: refusal 08.", hexadecimal(damaged)]
-    lines += ["# Socket 1 goes on with its public key in three frames; others come between them.", key[0], answer[3], key[2], answer[6]]
+    lines += ["# Frames come mixed and may be heard more than once: a repeat writes nothing."]
+    lines += [answer[2], answer[1], answer[0], answer[2]]
+    lines += ["# A bit of socket 5's message was turned over on the way, and its check octet shows it: refusal 08."]
+    lines += [hexadecimal(damaged)]
+    lines += ["# Socket 1 goes on with its public key in three frames; others come between them."]
+    lines += [key[0], answer[3], key[2], answer[6]]
     lines += ["# Socket 5 sends its capabilities again, this time whole.", answer[4], key[0], key[1]]
-    lines += ["# A link that is none of ours, perhaps of the next tray: refusal 03.", "5A5A5A5A8000000CD6010100010000000000000000"]
+    lines += ["# A link that is none of ours, perhaps of the next tray: refusal 03."]
+    lines += [hexadecimal(cut(0x5A5A5A5A, 0x80, bytes.fromhex(TRAY[0][1]))[0])]
     lines += ["# The last capabilities, and messages of other kinds.", answer[5]]
     lines += [hexadecimal(frame) for frame in confirmation + complete + failed]
     lines += ["# The links are closed."] + close
@@ -119,7 +124,8 @@ class RandomTray:
     def frame(self):
         """The next frame of the messages on their way, of several modules at once."""
         if len(self.coming) < 4 and self.chance.happens(60) or not self.coming:
-            number = self.chance.octet() if self.chance.happens(8) else self.chance.pick((0x80, 0x81, self.chance.between(0x80, 0xFF)))
+            number = self.chance.pick((0x80, 0x81, self.chance.between(0x80, 0xFF)))
+            number = self.chance.octet() if self.chance.happens(8) else number
             self.coming += [cut(self.link_id(), number, self.message())]
         frames = self.coming[self.chance.below(len(self.coming))]
         frame = frames.pop(0 if self.chance.happens(80) else self.chance.below(len(frames)))
