@@ -1,0 +1,1 @@
+"""Scripts, line inputs and tray logs made from a seed."""

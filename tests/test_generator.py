@@ -1,0 +1,68 @@
+"""The generator: the same seed gives the same script, and the comparison finds a difference."""
+import pathlib
+import subprocess
+import sys
+import tempfile
+import unittest
+
+from model.generator.chance import Chance
+from model.generator.line_input import random_input
+from model.generator.scripts import mixed_script
+from model.generator.tray_log import random_log
+from model.replay import answer_script
+
+TESTS = pathlib.Path(__file__).resolve().parent
+PROGRAM = """#!%s
+import sys
+sys.path.insert(0, %r)
+from model.%s import %s as answer
+text = answer(sys.stdin.buffer.read())
+sys.stdout.buffer.write(%s)
+"""
+
+
+class Seeds(unittest.TestCase):
+    def test_the_same_seed_gives_the_same_script(self):
+        first, second, other = mixed_script(1, 3000), mixed_script(1, 3000), mixed_script(2, 3000)
+        self.assertEqual(first.text(), second.text())
+        self.assertNotEqual(first.text(), other.text())
+        self.assertEqual(len(first.lines), 3000)
+        self.assertEqual(answer_script(first.text()), first.answer_text())
+
+    def test_other_inputs(self):
+        self.assertEqual(random_input(Chance(1), 50), random_input(Chance(1), 50))
+        self.assertEqual(random_log(Chance(1), 200), random_log(Chance(1), 200))
+
+    def test_a_refusal_is_followed_by_the_hash_of_everything(self):
+        script = mixed_script(3, 3000)
+        followed = [script.lines[index + 1] for index, answer in enumerate(script.answers[:-1]) if answer.startswith("!")]
+        self.assertEqual(set(followed), {b"ZH"})
+
+
+class Comparison(unittest.TestCase):
+    def compare(self, *changes):
+        """The comparison's exit code and text, with programs that answer as the model does but for a change of their text."""
+        programs = (("replay", "replay", "answer_script"), ("segment_lines", "line_program", "answer_lines"),
+                    ("import_capabilities", "import_program", "answer_log"))
+        with tempfile.TemporaryDirectory() as folder:
+            options = []
+            for (name, module, function), change in zip(programs, changes):
+                path = pathlib.Path(folder) / name
+                path.write_text(PROGRAM % (sys.executable, str(TESTS), module, function, change), encoding="ascii")
+                path.chmod(0o755)
+                options += ["--" + name, str(path)]
+            finished = subprocess.run([sys.executable, str(TESTS / "compare"), "1", "600"] + options, stdout=subprocess.PIPE, check=False)
+        return finished.returncode, finished.stdout.decode("ascii")
+
+    def test_equal(self):
+        self.assertEqual(self.compare("text", "text", "text")[0], 0)
+
+    def test_differences(self):
+        for changes in (("text.replace(b'!07', b'R')", "text", "text"), ("text", "text[:-1]", "text"), ("text", "text", "text + b'?,9\\n'")):
+            code, shown = self.compare(*changes)
+            self.assertEqual(code, 1)
+            self.assertEqual(shown.count("differs"), 1)
+
+
+if __name__ == "__main__":
+    unittest.main()
