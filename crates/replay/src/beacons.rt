@@ -12,9 +12,9 @@ use beacon::Subnet;
 use octets::octet_at;
 use octets::read32;
 use script::Outcome;
+use script::put8;
 use script::put16;
 use script::put32;
-use script::put8;
 
 // The state after an operation, and what it came to.
 pub(super) struct StateStep {
@@ -71,13 +71,7 @@ fn put_hash(hash: Hash, beacon: &[u8], values: &mut [u8]) {
     }
 }
 
-fn unprovisioned(
-    uuid: usize,
-    oob: u16,
-    hash: Hash,
-    beacon: &[u8],
-    values: &mut [u8],
-) -> Outcome {
+fn unprovisioned(uuid: usize, oob: u16, hash: Hash, beacon: &[u8], values: &mut [u8]) -> Outcome {
     octets::copy(values, 0, beacon, uuid, 16);
     put16(values, 16, oob);
     put_hash(hash, beacon, values);

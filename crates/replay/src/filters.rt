@@ -8,8 +8,8 @@ use proxy_filter::FilterStep;
 use proxy_filter::FilterType;
 use proxy_filter::PassAnswer;
 use script::Outcome;
-use script::put16;
 use script::put8;
+use script::put16;
 
 // The filter after an operation, and what it came to.
 pub(super) struct FilterOutcome {
@@ -150,12 +150,7 @@ fn perform_bare(operation: u8, filter: Filter, values: &mut [u8]) -> FilterOutco
     }
 }
 
-pub(super) fn perform(
-    operation: u8,
-    filter: Filter,
-    x: &[u8],
-    values: &mut [u8],
-) -> FilterOutcome {
+pub(super) fn perform(operation: u8, filter: Filter, x: &[u8], values: &mut [u8]) -> FilterOutcome {
     if operation == b'S' {
         return set(filter, x);
     }

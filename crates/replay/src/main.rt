@@ -25,6 +25,7 @@ use records::Records;
 use script::Arguments;
 use script::Outcome;
 use transfers::TransferStep;
+ghost use mathlib.Core.Path.{_≡_};
 ghost use Prim.Native.Nat.{_≤_};
 ghost use lib.ListN.{length};
 ghost use Rattle.replay.specs.Progress.{Kept};
@@ -144,12 +145,21 @@ fn hash_state(held: Held, values: &mut [u8]) -> u32 {
 }
 
 fn hash_all(held: Held, a: &[u8], b: &[u8], o: &[u8], values: &mut [u8]) -> Outcome {
-    let h = script::hash(script::hash(script::hash(hash_state(held, values), a), b), o);
+    let h = script::hash(
+        script::hash(script::hash(hash_state(held, values), a), b),
+        o,
+    );
     script::put32(values, 0, h);
     Outcome::Values {
         letter: b'H',
         count: 4,
     }
+}
+
+fn clear(a: &mut [u8], b: &mut [u8], o: &mut [u8]) {
+    storages::fill_storage(a, 0);
+    storages::fill_storage(b, 0);
+    storages::fill_storage(o, 0);
 }
 
 // Everything as at start, or the hash of everything.
@@ -170,9 +180,7 @@ fn perform_whole(
         return keep(held, hashed);
     }
     if operation == b'Z' {
-        storages::perform(b'F', &[0], a, values);
-        storages::perform(b'F', &[0], b, values);
-        storages::perform(b'F', &[0], o, values);
+        clear(a, b, o);
         return keep(at_start(), Outcome::Done);
     }
     keep(held, Outcome::Malformed)
@@ -423,6 +431,38 @@ fn take_piece(
     after
 }
 
+// Reads on as far as a line's end, or the end of what is there, and takes what was read.
+fn take_turn(
+    progress: Progress,
+    input: &mut [u8],
+    line: &mut [u8],
+    a: &mut [u8],
+    b: &mut [u8],
+    o: &mut [u8],
+    v: &mut [u8],
+    output: &mut [u8],
+) -> Progress
+    ensures { λ r. ⌜ Kept r (now (line .exit)) (now (output .exit)) ⌝ }
+{
+    let before = progress.streams;
+    let next = lines::next_piece(before, input, output);
+    let from = next.from;
+    let to = next.to;
+    take_piece(progress, next, &input[from..to], line, a, b, o, v, output)
+}
+
+fn begin() -> Progress
+    ensures { λ r. ⌜ (r .characters ≡ 0) × (r .streams .waiting ≡ 0) ⌝ }
+{
+    let streams = lines::start();
+    let held = at_start();
+    Progress {
+        streams: streams,
+        characters: 0,
+        held: held,
+    }
+}
+
 fn run(
     input: &mut [u8],
     line: &mut [u8],
@@ -432,22 +472,13 @@ fn run(
     v: &mut [u8],
     output: &mut [u8],
 ) {
-    let streams = lines::start();
-    let held = at_start();
-    let mut progress = Progress {
-        streams: streams,
-        characters: 0,
-        held: held,
-    };
+    let mut progress = begin();
     // Nothing says that the input ends, so the turns are counted down from a number that no run uses up.
     let mut turns = u64::MAX;
     while turns > 0 {
-        let before = progress.streams;
-        let next = lines::next_piece(before, input, output);
-        let from = next.from;
-        let to = next.to;
-        progress = take_piece(progress, next, &input[from..to], line, a, b, o, v, output);
-        if next.found {
+        progress = take_turn(progress, input, line, a, b, o, v, output);
+        let streams = progress.streams;
+        if streams.found {
             turns -= 1;
         } else {
             turns = 0;
@@ -485,6 +516,12 @@ fn main() {
     let mut o = [0u8; 4096];
     let mut v = [0u8; 1536];
     run(
-        &mut input, &mut line, &mut a, &mut b, &mut o, &mut v, &mut output,
+        &mut input,
+        &mut line,
+        &mut a,
+        &mut b,
+        &mut o,
+        &mut v,
+        &mut output,
     );
 }

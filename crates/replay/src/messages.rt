@@ -8,8 +8,8 @@ use provisioning::Choice;
 use provisioning::Field;
 use provisioning::Message;
 use script::Outcome;
-use script::put16;
 use script::put8;
+use script::put16;
 
 fn outcome(count: usize) -> Outcome {
     Outcome::Values {

@@ -10,9 +10,9 @@ use octets::read16;
 use octets::read32;
 use pb_adv::TransactionNumber;
 use script::Outcome;
+use script::put8;
 use script::put16;
 use script::put32;
-use script::put8;
 
 // The records after an operation, and what it came to.
 pub(super) struct Records {

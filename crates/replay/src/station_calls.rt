@@ -8,8 +8,8 @@ use octets::read32;
 use pb_adv::Socket;
 use pb_adv::TransactionNumber;
 use script::Outcome;
-use script::put16;
 use script::put8;
+use script::put16;
 use station::Received;
 
 fn letter(letter: u8) -> Outcome {
@@ -78,12 +78,7 @@ fn malformed(links: [Link; 8]) -> Records {
     }
 }
 
-pub(super) fn receive(
-    links: [Link; 8],
-    x: &[u8],
-    area: &mut [u8],
-    values: &mut [u8],
-) -> Records {
+pub(super) fn receive(links: [Link; 8], x: &[u8], area: &mut [u8], values: &mut [u8]) -> Records {
     if x.len() < 2 {
         return malformed(links);
     }

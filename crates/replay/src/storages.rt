@@ -3,7 +3,7 @@ use octets::octet_at;
 use octets::read16;
 use script::Outcome;
 
-fn fill_storage(storage: &mut [u8], octet: u8) {
+pub(super) fn fill_storage(storage: &mut [u8], octet: u8) {
     let mut i = 0;
     while i < storage.len() {
         storage[i] = octet;
@@ -59,12 +59,7 @@ fn hash(x: &[u8], storage: &[u8], values: &mut [u8]) -> Outcome {
     }
 }
 
-pub(super) fn perform(
-    operation: u8,
-    x: &[u8],
-    storage: &mut [u8],
-    values: &mut [u8],
-) -> Outcome {
+pub(super) fn perform(operation: u8, x: &[u8], storage: &mut [u8], values: &mut [u8]) -> Outcome {
     match operation {
         b'F' => fill(x, storage),
         b'W' => write(x, storage),

@@ -9,8 +9,8 @@ use proxy::PieceAnswer;
 use proxy::PieceCount;
 use proxy::Transfer;
 use script::Outcome;
-use script::put16;
 use script::put8;
+use script::put16;
 
 // The transfer after an operation, and what it came to.
 pub(super) struct TransferStep {

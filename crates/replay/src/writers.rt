@@ -5,8 +5,8 @@ use octets::read16;
 use octets::read32;
 use pb_adv::TransactionNumber;
 use script::Outcome;
-use script::put16;
 use script::put8;
+use script::put16;
 
 // What a writer wrote: its length, and the octets from the start of the output.
 fn outcome_of(written: Written, output: &[u8], values: &mut [u8]) -> Outcome {
