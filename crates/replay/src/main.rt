@@ -130,7 +130,7 @@ fn hash_answer(hash: u32, outcome: Outcome, values: &[u8]) -> u32 {
     script::hash(hash, &text[0..n - 1])
 }
 
-// The hash of everything that is kept: the characters of what shows the state.
+// The hash of the characters of what shows the state.
 fn hash_state(held: Held, values: &mut [u8]) -> u32 {
     let links = held.links;
     let transfer = held.transfer;
@@ -144,11 +144,12 @@ fn hash_state(held: Held, values: &mut [u8]) -> u32 {
     hash_answer(h, messages::show_view(viewed, values), values)
 }
 
-fn hash_all(held: Held, a: &[u8], b: &[u8], o: &[u8], values: &mut [u8]) -> Outcome {
-    let h = script::hash(
-        script::hash(script::hash(hash_state(held, values), a), b),
-        o,
-    );
+fn hash_all(held: Held, storages: &[u8], values: &mut [u8]) -> Outcome {
+    let state = hash_state(held, values);
+    if storages.len() < VIEW {
+        return Outcome::Malformed;
+    }
+    let h = script::hash(state, &storages[0..VIEW]);
     script::put32(values, 0, h);
     Outcome::Values {
         letter: b'H',
@@ -156,151 +157,186 @@ fn hash_all(held: Held, a: &[u8], b: &[u8], o: &[u8], values: &mut [u8]) -> Outc
     }
 }
 
-fn clear(a: &mut [u8], b: &mut [u8], o: &mut [u8]) {
-    storages::fill_storage(a, 0);
-    storages::fill_storage(b, 0);
-    storages::fill_storage(o, 0);
-}
-
 // Everything as at start, or the hash of everything.
 fn perform_whole(
     held: Held,
     operation: u8,
     x: &[u8],
-    a: &mut [u8],
-    b: &mut [u8],
-    o: &mut [u8],
+    storages: &mut [u8],
     values: &mut [u8],
 ) -> Step {
     if x.len() != 0 {
         return keep(held, Outcome::Malformed);
     }
     if operation == b'H' {
-        let hashed = hash_all(held, a, b, o, values);
+        let hashed = hash_all(held, storages, values);
         return keep(held, hashed);
     }
     if operation == b'Z' {
-        clear(a, b, o);
+        storages::fill_storage(storages, 0);
         return keep(at_start(), Outcome::Done);
     }
     keep(held, Outcome::Malformed)
 }
 
-// The operations that begin with the letters of a storage.
-fn perform_on_b(held: Held, operation: u8, x: &[u8], b: &mut [u8], values: &mut [u8]) -> Step {
-    if operation == b'R' {
-        let security = held.security;
-        let step = beacons::hear(security, x, values);
-        return with_security(held, step);
-    }
-    let outcome = storages::perform(operation, x, b, values);
-    keep(held, outcome)
+// What an operation works on.
+enum Part {
+    // Storage A, lent to the station.
+    Area,
+    // Storage B and the proxy transfer.
+    Buffer,
+    // Storage O, lent to the writers.
+    Output,
+    View,
+    Links,
+    Filter,
+    Security,
+    // Nothing that is kept: the check octet, SegN, a provisioning message.
+    Leaf,
+    Whole,
+    Nothing,
 }
 
-fn perform_on_o(held: Held, operation: u8, x: &[u8], o: &mut [u8], values: &mut [u8]) -> Step {
-    if operation == b'P' {
-        let links = held.links;
-        let step = station_calls::open(links, x, values);
-        return with_links(held, step);
-    }
-    let outcome = storages::perform(operation, x, o, values);
-    keep(held, outcome)
+fn if_second(second: u8, letter: u8, part: Part, other: Part) -> Part {
+    if second == letter { part } else { other }
 }
 
-// Local Send, and SegN.
-fn perform_s(held: Held, operation: u8, x: &[u8], values: &mut [u8]) -> Step {
-    if operation == b'N' {
-        let links = held.links;
-        let step = station_calls::send(links, x, values);
-        return with_links(held, step);
+fn part_of(first: u8, second: u8) -> Part {
+    match first {
+        b'A' => Part::Area,
+        b'B' => if_second(second, b'R', Part::Security, Part::Buffer),
+        b'C' => if_second(second, b'K', Part::Leaf, Part::Links),
+        b'F' => Part::Filter,
+        b'K' => Part::Security,
+        b'L' => Part::Links,
+        b'O' => if_second(second, b'P', Part::Links, Part::Output),
+        b'P' => Part::Leaf,
+        b'R' => Part::Area,
+        b'S' => if_second(second, b'G', Part::Leaf, Part::Links),
+        b'V' => Part::View,
+        b'W' => Part::Output,
+        b'X' => if_second(second, b'W', Part::Output, Part::Buffer),
+        b'Z' => Part::Whole,
+        _ => Part::Nothing,
     }
-    if operation == b'G' {
-        let outcome = writers::last_segment(x, values);
-        return keep(held, outcome);
-    }
-    keep(held, Outcome::Malformed)
 }
 
-// Local Close, and the check octet.
-fn perform_c(held: Held, operation: u8, x: &[u8], values: &mut [u8]) -> Step {
-    if operation == b'L' {
-        let links = held.links;
-        let step = station_calls::close(links, x, values);
-        return with_links(held, step);
-    }
-    if operation == b'K' {
-        let outcome = writers::check_octet(x, values);
-        return keep(held, outcome);
-    }
-    keep(held, Outcome::Malformed)
-}
-
-fn receive(held: Held, operation: u8, x: &[u8], a: &mut [u8], values: &mut [u8]) -> Step {
-    if operation == b'F' {
-        let links = held.links;
-        let step = station_calls::receive(links, x, a, values);
-        return with_links(held, step);
-    }
-    keep(held, Outcome::Malformed)
-}
-
-fn perform_p(held: Held, operation: u8, x: &[u8], values: &mut [u8]) -> Step {
-    if operation == b'R' {
-        let outcome = messages::read(x, values);
-        return keep(held, outcome);
-    }
-    keep(held, Outcome::Malformed)
-}
-
-fn perform_x(
+fn perform_area(
     held: Held,
-    operation: u8,
+    first: u8,
+    second: u8,
     x: &[u8],
-    b: &mut [u8],
-    o: &mut [u8],
+    a: &mut [u8],
     values: &mut [u8],
 ) -> Step {
-    if operation == b'W' {
-        let outcome = writers::perform(b'W', x, o, values);
+    if first == b'A' {
+        let outcome = storages::perform(second, x, a, values);
+        return keep(held, outcome);
+    }
+    let links = held.links;
+    let step = station_calls::receive(second, links, x, a, values);
+    with_links(held, step)
+}
+
+fn perform_buffer(
+    held: Held,
+    first: u8,
+    second: u8,
+    x: &[u8],
+    b: &mut [u8],
+    values: &mut [u8],
+) -> Step {
+    if first == b'B' {
+        let outcome = storages::perform(second, x, b, values);
         return keep(held, outcome);
     }
     let transfer = held.transfer;
-    let step = transfers::perform(operation, transfer, x, b, values);
+    let step = transfers::perform(second, transfer, x, b, values);
     with_transfer(held, step)
 }
 
-fn perform_w(held: Held, operation: u8, x: &[u8], o: &mut [u8], values: &mut [u8]) -> Step {
-    if operation == b'W' {
-        return keep(held, Outcome::Malformed);
+fn perform_output(first: u8, second: u8, x: &[u8], o: &mut [u8], values: &mut [u8]) -> Outcome {
+    if first == b'O' {
+        return storages::perform(second, x, o, values);
     }
-    let outcome = writers::perform(operation, x, o, values);
-    keep(held, outcome)
+    if first == b'X' {
+        return writers::perform_piece(x, o, values);
+    }
+    writers::perform(second, x, o, values)
 }
 
-// The operations that use no storage, by their first letter.
-fn perform_bare(held: Held, first: u8, second: u8, x: &[u8], values: &mut [u8]) -> Step {
-    match first {
-        b'L' => {
-            let links = held.links;
-            let step = records::perform(second, links, x, values);
-            with_links(held, step)
-        }
-        b'F' => {
+fn perform_view(held: Held, second: u8, x: &[u8], octets: &mut [u8], values: &mut [u8]) -> Step {
+    let viewed = held.viewed;
+    let step = messages::perform(second, viewed, x, octets, values);
+    with_viewed(held, step)
+}
+
+fn perform_links(held: Held, first: u8, second: u8, x: &[u8], values: &mut [u8]) -> Step {
+    let links = held.links;
+    if first == b'L' {
+        let step = records::perform(second, links, x, values);
+        return with_links(held, step);
+    }
+    let step = station_calls::perform(first, second, links, x, values);
+    with_links(held, step)
+}
+
+fn perform_security(held: Held, first: u8, second: u8, x: &[u8], values: &mut [u8]) -> Step {
+    let security = held.security;
+    if first == b'B' {
+        let step = beacons::hear(security, x, values);
+        return with_security(held, step);
+    }
+    let step = beacons::perform(second, security, x, values);
+    with_security(held, step)
+}
+
+fn perform_leaf(first: u8, second: u8, x: &[u8], values: &mut [u8]) -> Outcome {
+    if first == b'C' {
+        return writers::check_octet(x, values);
+    }
+    if first == b'S' {
+        return writers::last_segment(x, values);
+    }
+    if second == b'R' {
+        return messages::read(x, values);
+    }
+    Outcome::Malformed
+}
+
+// The operations that use no storage.
+fn perform_bare(
+    held: Held,
+    part: Part,
+    first: u8,
+    second: u8,
+    x: &[u8],
+    values: &mut [u8],
+) -> Step {
+    match part {
+        Part::Links => perform_links(held, first, second, x, values),
+        Part::Filter => {
             let filter = held.filter;
             let step = filters::perform(second, filter, x, values);
             with_filter(held, step)
         }
-        b'K' => {
-            let security = held.security;
-            let step = beacons::perform(second, security, x, values);
-            with_security(held, step)
+        Part::Security => perform_security(held, first, second, x, values),
+        Part::Leaf => {
+            let outcome = perform_leaf(first, second, x, values);
+            keep(held, outcome)
         }
-        b'S' => perform_s(held, second, x, values),
-        b'C' => perform_c(held, second, x, values),
-        b'P' => perform_p(held, second, x, values),
         _ => keep(held, Outcome::Malformed),
     }
 }
+
+// The storages stand one behind the other: A from 0, and where the others begin.
+const B: usize = 11776;
+
+const O: usize = 13312;
+
+const VIEW: usize = 17408;
+
+const END: usize = 18944;
 
 // An operation by its two letters.
 fn perform(
@@ -308,42 +344,28 @@ fn perform(
     first: u8,
     second: u8,
     x: &[u8],
-    a: &mut [u8],
-    b: &mut [u8],
-    o: &mut [u8],
-    v: &mut [u8],
+    storages: &mut [u8],
     values: &mut [u8],
 ) -> Step {
-    match first {
-        b'A' => {
-            let outcome = storages::perform(second, x, a, values);
+    if storages.len() < END {
+        return keep(held, Outcome::Malformed);
+    }
+    let part = part_of(first, second);
+    match part {
+        Part::Area => perform_area(held, first, second, x, &mut storages[0..B], values),
+        Part::Buffer => perform_buffer(held, first, second, x, &mut storages[B..O], values),
+        Part::Output => {
+            let outcome = perform_output(first, second, x, &mut storages[O..VIEW], values);
             keep(held, outcome)
         }
-        b'B' => perform_on_b(held, second, x, b, values),
-        b'O' => perform_on_o(held, second, x, o, values),
-        b'R' => receive(held, second, x, a, values),
-        b'V' => {
-            let viewed = held.viewed;
-            let step = messages::perform(second, viewed, x, v, values);
-            with_viewed(held, step)
-        }
-        b'W' => perform_w(held, second, x, o, values),
-        b'X' => perform_x(held, second, x, b, o, values),
-        b'Z' => perform_whole(held, second, x, a, b, o, values),
-        _ => perform_bare(held, first, second, x, values),
+        Part::View => perform_view(held, second, x, &mut storages[VIEW..END], values),
+        Part::Whole => perform_whole(held, second, x, storages, values),
+        _ => perform_bare(held, part, first, second, x, values),
     }
 }
 
 // One line: its arguments are read, its operation performed.
-fn perform_line(
-    held: Held,
-    line: &[u8],
-    a: &mut [u8],
-    b: &mut [u8],
-    o: &mut [u8],
-    v: &mut [u8],
-    values: &mut [u8],
-) -> Step {
+fn perform_line(held: Held, line: &[u8], storages: &mut [u8], values: &mut [u8]) -> Step {
     let mut x = [0u8; 4096];
     let Arguments::Octets(n) = script::read_arguments(line, &mut x) else {
         return keep(held, Outcome::Malformed);
@@ -353,7 +375,7 @@ fn perform_line(
     }
     let first = octet_at(line, 0);
     let second = octet_at(line, 1);
-    perform(held, first, second, &x[0..n], a, b, o, v, values)
+    perform(held, first, second, &x[0..n], storages, values)
 }
 
 // How far the program has come.
@@ -365,15 +387,7 @@ struct Progress {
 }
 
 // Ends the line: its answer waits in the output.
-fn end_line(
-    progress: Progress,
-    line: &[u8],
-    a: &mut [u8],
-    b: &mut [u8],
-    o: &mut [u8],
-    v: &mut [u8],
-    output: &mut [u8],
-) -> Progress
+fn end_line(progress: Progress, line: &[u8], storages: &mut [u8], output: &mut [u8]) -> Progress
     requires { ⌜ progress .characters ≤ length (now line) ⌝ }
     ensures { λ r. ⌜ Kept r (now (line .entry)) (now (output .exit)) ⌝ }
 {
@@ -384,7 +398,7 @@ fn end_line(
     // The longest answer has a letter, 4,096 octets and a newline.
     let streams = lines::make_room(before, output, 8194);
     let waiting = streams.waiting;
-    let step = perform_line(held, &line[0..characters], a, b, o, v, &mut values);
+    let step = perform_line(held, &line[0..characters], storages, &mut values);
     let after = step.held;
     let outcome = step.outcome;
     let Written::Count(n) = script::write_outcome(outcome, &values, &mut output[waiting..]) else {
@@ -409,10 +423,7 @@ fn take_piece(
     streams: Streams,
     piece: &[u8],
     line: &mut [u8],
-    a: &mut [u8],
-    b: &mut [u8],
-    o: &mut [u8],
-    v: &mut [u8],
+    storages: &mut [u8],
     output: &mut [u8],
 ) -> Progress
     requires { ⌜ streams .waiting ≤ length (now output) ⌝ }
@@ -426,7 +437,7 @@ fn take_piece(
         held: held,
     };
     if streams.ends {
-        return end_line(after, line, a, b, o, v, output);
+        return end_line(after, line, storages, output);
     }
     after
 }
@@ -436,10 +447,7 @@ fn take_turn(
     progress: Progress,
     input: &mut [u8],
     line: &mut [u8],
-    a: &mut [u8],
-    b: &mut [u8],
-    o: &mut [u8],
-    v: &mut [u8],
+    storages: &mut [u8],
     output: &mut [u8],
 ) -> Progress
     ensures { λ r. ⌜ Kept r (now (line .exit)) (now (output .exit)) ⌝ }
@@ -448,7 +456,7 @@ fn take_turn(
     let next = lines::next_piece(before, input, output);
     let from = next.from;
     let to = next.to;
-    take_piece(progress, next, &input[from..to], line, a, b, o, v, output)
+    take_piece(progress, next, &input[from..to], line, storages, output)
 }
 
 fn begin() -> Progress
@@ -463,20 +471,12 @@ fn begin() -> Progress
     }
 }
 
-fn run(
-    input: &mut [u8],
-    line: &mut [u8],
-    a: &mut [u8],
-    b: &mut [u8],
-    o: &mut [u8],
-    v: &mut [u8],
-    output: &mut [u8],
-) {
+fn run(input: &mut [u8], line: &mut [u8], storages: &mut [u8], output: &mut [u8]) {
     let mut progress = begin();
     // Nothing says that the input ends, so the turns are counted down from a number that no run uses up.
     let mut turns = u64::MAX;
     while turns > 0 {
-        progress = take_turn(progress, input, line, a, b, o, v, output);
+        progress = take_turn(progress, input, line, storages, output);
         let streams = progress.streams;
         if streams.found {
             turns -= 1;
@@ -484,23 +484,15 @@ fn run(
             turns = 0;
         }
     }
-    finish(progress, line, a, b, o, v, output);
+    finish(progress, line, storages, output);
 }
 
 // The end of input ends a line that has characters.
-fn finish(
-    progress: Progress,
-    line: &[u8],
-    a: &mut [u8],
-    b: &mut [u8],
-    o: &mut [u8],
-    v: &mut [u8],
-    output: &mut [u8],
-)
+fn finish(progress: Progress, line: &[u8], storages: &mut [u8], output: &mut [u8])
     requires { ⌜ Kept progress (now line) (now output) ⌝ }
 {
     if 0 < progress.characters {
-        let last = end_line(progress, line, a, b, o, v, output);
+        let last = end_line(progress, line, storages, output);
         let streams = last.streams;
         lines::flush(streams, output);
     }
@@ -511,17 +503,6 @@ fn main() {
     let mut output = io::large_buffer();
     // One character more than the longest line.
     let mut line = [0u8; 8193];
-    let mut a = [0u8; 11776];
-    let mut b = [0u8; 1536];
-    let mut o = [0u8; 4096];
-    let mut v = [0u8; 1536];
-    run(
-        &mut input,
-        &mut line,
-        &mut a,
-        &mut b,
-        &mut o,
-        &mut v,
-        &mut output,
-    );
+    let mut storages = [0u8; 18944];
+    run(&mut input, &mut line, &mut storages, &mut output);
 }

@@ -78,7 +78,16 @@ fn malformed(links: [Link; 8]) -> Records {
     }
 }
 
-pub(super) fn receive(links: [Link; 8], x: &[u8], area: &mut [u8], values: &mut [u8]) -> Records {
+pub(super) fn receive(
+    operation: u8,
+    links: [Link; 8],
+    x: &[u8],
+    area: &mut [u8],
+    values: &mut [u8],
+) -> Records {
+    if operation != b'F' {
+        return malformed(links);
+    }
     if x.len() < 2 {
         return malformed(links);
     }
@@ -90,7 +99,7 @@ pub(super) fn receive(links: [Link; 8], x: &[u8], area: &mut [u8], values: &mut 
     after(received, values)
 }
 
-pub(super) fn open(links: [Link; 8], x: &[u8], values: &mut [u8]) -> Records {
+fn open(links: [Link; 8], x: &[u8], values: &mut [u8]) -> Records {
     if x.len() != 5 {
         return malformed(links);
     }
@@ -98,7 +107,7 @@ pub(super) fn open(links: [Link; 8], x: &[u8], values: &mut [u8]) -> Records {
     after(received, values)
 }
 
-pub(super) fn send(links: [Link; 8], x: &[u8], values: &mut [u8]) -> Records {
+fn send(links: [Link; 8], x: &[u8], values: &mut [u8]) -> Records {
     if x.len() != 3 {
         return malformed(links);
     }
@@ -106,10 +115,41 @@ pub(super) fn send(links: [Link; 8], x: &[u8], values: &mut [u8]) -> Records {
     after(received, values)
 }
 
-pub(super) fn close(links: [Link; 8], x: &[u8], values: &mut [u8]) -> Records {
+fn close(links: [Link; 8], x: &[u8], values: &mut [u8]) -> Records {
     if x.len() != 1 {
         return malformed(links);
     }
     let received = station::close(links, Socket(octet_at(x, 0)));
     after(received, values)
+}
+
+fn send_if(second: u8, links: [Link; 8], x: &[u8], values: &mut [u8]) -> Records {
+    if second == b'N' {
+        return send(links, x, values);
+    }
+    malformed(links)
+}
+
+fn close_if(second: u8, links: [Link; 8], x: &[u8], values: &mut [u8]) -> Records {
+    if second == b'L' {
+        return close(links, x, values);
+    }
+    malformed(links)
+}
+
+// The local calls.
+pub(super) fn perform(
+    first: u8,
+    second: u8,
+    links: [Link; 8],
+    x: &[u8],
+    values: &mut [u8],
+) -> Records {
+    if first == b'O' {
+        return open(links, x, values);
+    }
+    if first == b'S' {
+        return send_if(second, links, x, values);
+    }
+    close_if(second, links, x, values)
 }

@@ -59,12 +59,11 @@ fn written_by(operation: u8, x: &[u8], output: &mut [u8]) -> Written {
         ),
         b'O' => open(x, output),
         b'A' => pb_adv_writing::write_ack(read32(x, 2), output),
-        b'C' => pb_adv_writing::write_close(read32(x, 2), octet_at(x, 6), output),
-        _ => piece(x, output),
+        _ => pb_adv_writing::write_close(read32(x, 2), octet_at(x, 6), output),
     }
 }
 
-// Whether a writer has so many octets of arguments: these, or these and a message.
+// Whether a writer of frames has so many octets of arguments: these, or these and a message.
 fn has_arguments(operation: u8, count: usize) -> bool {
     match operation {
         b'S' => 8 <= count,
@@ -72,12 +71,11 @@ fn has_arguments(operation: u8, count: usize) -> bool {
         b'O' => 6 <= count,
         b'A' => count == 6,
         b'C' => count == 7,
-        b'W' => 6 <= count,
         _ => false,
     }
 }
 
-// A writer of a frame by its second letter, or `W` for a proxy piece.
+// A writer of a frame, by its second letter.
 pub(super) fn perform(operation: u8, x: &[u8], storage: &mut [u8], values: &mut [u8]) -> Outcome {
     if has_arguments(operation, x.len()) {
         let lent = read16(x, 0) as usize;
@@ -88,6 +86,19 @@ pub(super) fn perform(operation: u8, x: &[u8], storage: &mut [u8], values: &mut 
         return outcome_of(written, storage, values);
     }
     Outcome::Malformed
+}
+
+// The writer of a proxy piece.
+pub(super) fn perform_piece(x: &[u8], storage: &mut [u8], values: &mut [u8]) -> Outcome {
+    if x.len() < 6 {
+        return Outcome::Malformed;
+    }
+    let lent = read16(x, 0) as usize;
+    if storage.len() < lent {
+        return Outcome::Malformed;
+    }
+    let written = piece(x, &mut storage[0..lent]);
+    outcome_of(written, storage, values)
 }
 
 fn number_outcome(number: u8, values: &mut [u8]) -> Outcome {

@@ -6,18 +6,15 @@ use Rattle.replay.proofs.run.Statement.{statement}
 use Rattle.replay.proofs.run.Tie as tie
 
 abbrev Inv-loop : tie.InvT-loop
-Inv-loop input₀ line₀ a₀ b₀ o₀ v₀ output₀ progress₀ turns₀ input line a b o v output progress turns =
+Inv-loop input₀ line₀ storages₀ output₀ progress₀ turns₀ input line storages output progress turns =
     (length input ≡ length input₀)
     × (length line ≡ length line₀)
-    × (length a ≡ length a₀)
-    × (length b ≡ length b₀)
-    × (length o ≡ length o₀)
-    × (length v ≡ length v₀)
+    × (length storages ≡ length storages₀)
     × (length output ≡ length output₀)
     × Kept progress line output
 
 abbrev μ-loop : tie.MeasureT-loop
-μ-loop input₀ line₀ a₀ b₀ o₀ v₀ output₀ progress₀ turns₀ input line a b o v output progress turns = turns
+μ-loop input₀ line₀ storages₀ output₀ progress₀ turns₀ input line storages output progress turns = turns
 
 begin-requires : tie.Need-begin-requires Inv-loop μ-loop
 begin-requires c κs = search needs
@@ -58,15 +55,6 @@ same-length-3 c = search needs
 same-length-4 : tie.Need-same-length-4 Inv-loop μ-loop
 same-length-4 c = search needs
 
-same-length-5 : tie.Need-same-length-5 Inv-loop μ-loop
-same-length-5 c = search needs
-
-same-length-6 : tie.Need-same-length-6 Inv-loop μ-loop
-same-length-6 c = search needs
-
-same-length-7 : tie.Need-same-length-7 Inv-loop μ-loop
-same-length-7 c = search needs
-
 returns : tie.Need-returns Inv-loop μ-loop
 returns c = search needs
 
@@ -89,7 +77,4 @@ run-spec =
     same-length-2
     same-length-3
     same-length-4
-    same-length-5
-    same-length-6
-    same-length-7
     returns)
