@@ -1,28 +1,25 @@
 -- The pieces of a message, read one after the other, give the message back.
-use Prim.Native.Nat.{ℕ, zero, suc, _+_, _*_, _-_, _/_, _%_, _≤_, _<_, min}
-use native.Mathlib.Nat.{mul-suc}
+use Prim.Native.Nat.{ℕ, zero, suc, _+_, _-_, _≤_, _<_, min}
 use native.Mathlib.Omega.{arith}
-use mathlib.Core.Bool.{true, false, cond, _||_}
+use mathlib.Core.Bool.{true, false, _||_}
 use mathlib.Core.List.{List, [], _∷_, _++_, map}
 use mathlib.Core.Path.{_≡_, refl, sym, ap, _∙_}
-use lib.Dec.{leb, ltb, eqb}
+use lib.Dec.{ltb, eqb}
 use lib.ListN.{length, drop, replicate}
-use borrow.Author.Tests.{leb-true, ltb-true, ltb-false, eqb-true, eqb-false, le-leb, eq-eqb, ne-eqb, le-ltb}
-use Rattle.octets.specs.Parts.{write}
-use Rattle.octets.specs.Cut.{placeOf, lastOf, sizeOf, piece, upTo, placed}
-use Rattle.octets.specs.Told.{Told, answered}
+use borrow.Author.Tests.{ltb-true, ltb-false, eqb-true, le-leb, eq-eqb, ne-eqb}
+use Rattle.octets.specs.Cut.{piece, upTo, placed}
+use Rattle.octets.specs.Told.{answered}
 use Rattle.octets.proofs.Parts.{write-length}
-use Rattle.octets.proofs.Cut.{map-up-to, place-up, piece-length, piece-begins, last-enough, last-least, placed-cut}
+use Rattle.octets.proofs.Cut.{map-up-to, placed-cut}
 use Rattle.octets.proofs.Tests.{cases}
-use Rattle.proxy.specs.Pieces.{isType, isLength, piecePlace, lastPiece, topBits, pieceOctets, messagePieces, CutAsked}
+use Rattle.proxy.specs.Pieces.{isType, piecePlace, lastPiece, topBits, pieceOctets, messagePieces, CutAsked}
 use Rattle.proxy.specs.Transfers.{empty, isGood, isRefused, topOf, typeOf, isExpected, isLikeFirst, heldLength, complete, added, joining, offered, pieceRead, bufferAfter, told}
-use Rattle.proxy.specs.Promises.{Run, run, Back}
+use Rattle.proxy.specs.Promises.{Run, run}
 use Rattle.proxy.specs.declared.HalfTransfer.{HalfTransfer}
 use Rattle.proxy.specs.declared.HalfTransfer.the-variants.{Nothing, Held}
 use Rattle.proxy.specs.declared.Transfer.{Transfer}
 use Rattle.proxy.specs.declared.PieceAnswer.the-variants as A
-use Rattle.proxy.specs.declared.PieceRead.{PieceRead}
-use Rattle.proxy.proofs.Laws.{cut-asked}
+use Rattle.proxy.proofs.Laws.{begins, last-ends, one-piece, more-pieces, place-next, data-long}
 
 -- connected, with this half-received
 abbrev holding : HalfTransfer → Transfer
@@ -68,45 +65,28 @@ module _ (z t : ℕ) (m : List ℕ) (asked : CutAsked z (length m)) (small : t �
   heldAt zero = Nothing
   heldAt (suc k) = Held t (piecePlace z (suc k))
 
-  begins : (k : ℕ) → k ≤ N → piecePlace z k < n
-  unfolding lastPiece
-  begins k h = piece-begins (z - 1) (z - 1) n k (omega (arith, asked .size-least)) (asked .some-octets) h
-
-  -- whole exactly where there is one piece
-  one-piece : n < z → N ≡ 0
-  unfolding lastPiece
-  one-piece h = omega (arith, last-least (z - 1) (z - 1) n 0 (omega (arith, asked .size-least)) (omega arith))
-
-  pieces : z ≤ n → 0 < N
-  unfolding lastPiece
-  pieces h = go N refl
-    where
-      go : (q : ℕ) → N ≡ q → 0 < q
-      go zero e = absurd (omega (arith, rw e at (last-enough (z - 1) (z - 1) n (omega (arith, asked .size-least)))))
-      go (suc j) e = omega arith
-
   expected-top : (k : ℕ) → k ≤ N → isExpected (heldAt k) (topBits z n k) ≡ true
   unfolding topBits
   expected-top zero h = cases (ltb n z) (λ e. rw e) (λ e. rw e)
   expected-top (suc k) h =
       cases (ltb n z)
-      (λ e. absurd (omega (arith, one-piece (ltb-true n z e))))
+      (λ e. absurd (omega (arith, one-piece z n asked (ltb-true n z e))))
       (λ e. rw (e, ne-eqb (suc k) 0 (λ q. absurd (omega arith))) (cases (eqb (suc k) N) (λ e. rw e) (λ e. rw e)))
 
   ending-top : (k : ℕ) → k ≤ N → (eqb (topBits z n k) 0 || eqb (topBits z n k) 3) ≡ eqb k N
   unfolding topBits
   ending-top k h =
       cases (ltb n z)
-      (λ e. rw e (sym (eq-eqb k N (omega (arith, one-piece (ltb-true n z e))))))
+      (λ e. rw e (sym (eq-eqb k N (omega (arith, one-piece z n asked (ltb-true n z e))))))
       (λ e. rw e (cases (eqb k 0)
-      (λ f. rw f (sym (ne-eqb k N (λ q. absurd (omega (arith, eqb-true k 0 f, pieces (ltb-false n z e)))))))
+      (λ f. rw f (sym (ne-eqb k N (λ q. absurd (omega (arith, eqb-true k 0 f, more-pieces z n asked (ltb-false n z e)))))))
       (λ f. rw f (cases (eqb k N) (λ g. rw g) (λ g. rw g)))))
 
   held-good : (k : ℕ) → k ≤ N → isGood (holding (heldAt k)) ≡ true
   unfolding isGood
   held-good zero h = refl
   held-good (suc k) h =
-      let b = begins (suc k) h in
+      let b = begins z n asked (suc k) h in
       let s = asked .size-least in
       let f = asked .few-octets in
       rw (le-leb t 3 small, le-leb 1 (piecePlace z (suc k)) (omega arith), le-leb (piecePlace z (suc k)) 1469 (omega arith))
@@ -119,21 +99,14 @@ module _ (z t : ℕ) (m : List ℕ) (asked : CutAsked z (length m)) (small : t �
   held-place zero = refl
   held-place (suc k) = refl
 
-  -- the octets of a piece, after its first
-  data-long : (k : ℕ) → length (piece (piecePlace z) n m k) ≡ sizeOf (piecePlace z) n k
-  data-long k = piece-length (piecePlace z) refl (place-up (z - 1) (z - 1)) n m k (omega arith)
-
-  place-next : (k : ℕ) → piecePlace z k + 19 ≤ piecePlace z (suc k)
-  place-next zero = omega (arith, asked .size-least)
-  place-next (suc k) = omega (arith, asked .size-least, mul-suc (z - 1) k)
-
   -- where a piece ends
   ends : (k : ℕ) → k ≤ N → heldLength (heldAt k) + (length (pieceOctets z t m k) - 1) ≡ min (piecePlace z (suc k)) n
   unfolding pieceOctets
   ends k h =
-      let b = begins k h in
-      let d = data-long k in
-      let u = place-next k in
+      let b = begins z n asked k h in
+      let d = data-long z m k in
+      let u = place-next z k in
+      let a = asked .size-least in
       rw (held-place k) (omega arith)
 
   top-back : (k : ℕ) → topOf (pieceOctets z t m k) ≡ topBits z n k
@@ -147,9 +120,10 @@ module _ (z t : ℕ) (m : List ℕ) (asked : CutAsked z (length m)) (small : t �
   some-data : (k : ℕ) → k ≤ N → 2 ≤ length (pieceOctets z t m k)
   unfolding pieceOctets
   some-data k h =
-      let b = begins k h in
-      let d = data-long k in
-      let u = place-next k in
+      let b = begins z n asked k h in
+      let d = data-long z m k in
+      let u = place-next z k in
+      let a = asked .size-least in
       omega arith
 
   -- piece k, read after those before it
@@ -165,13 +139,13 @@ module _ (z t : ℕ) (m : List ℕ) (asked : CutAsked z (length m)) (small : t �
   more : (k : ℕ) → k < N → pieceRead (holding (heldAt k)) 1469 (pieceOctets z t m k) ≡ record { transfer = holding (heldAt (suc k)); answer = A.More }
   unfolding added
   more k h =
-      let e : min (piecePlace z (suc k)) n ≡ piecePlace z (suc k) = omega (arith, begins (suc k) h) in
+      let e : min (piecePlace z (suc k)) n ≡ piecePlace z (suc k) = omega (arith, begins z n asked (suc k) h) in
       reads k (omega arith) ∙ rw (ending-top k (omega arith), ne-eqb k N (λ q. absurd (omega arith)), e)
 
   last : pieceRead (holding (heldAt N)) 1469 (pieceOctets z t m N) ≡ complete t n
-  unfolding added lastPiece
+  unfolding added
   last =
-      let e : min (piecePlace z (suc N)) n ≡ n = omega (arith, last-enough (z - 1) (z - 1) n (omega (arith, asked .size-least))) in
+      let e : min (piecePlace z (suc N)) n ≡ n = omega (arith, last-ends z n asked) in
       reads N (omega arith) ∙ rw (ending-top N (omega arith), eq-eqb N N refl, e)
 
   module _ (b : List ℕ) (room : length b ≡ 1469) where
@@ -183,9 +157,9 @@ module _ (z t : ℕ) (m : List ℕ) (asked : CutAsked z (length m)) (small : t �
     buffer-long zero h = room
     buffer-long (suc k) h =
         let l = buffer-long k (omega arith) in
-        let d = data-long k in
+        let d = data-long z m k in
         let f = asked .few-octets in
-        let s = begins k (omega arith) in
+        let s = begins z n asked k (omega arith) in
         write-length (bufferAt k) (piecePlace z k) (piece (piecePlace z) n m k) (omega arith) ∙ l
 
     buffer-next : (k : ℕ) → k ≤ N → isRefused (pieceRead (holding (heldAt k)) 1469 (pieceOctets z t m k) .answer) ≡ false
@@ -209,7 +183,7 @@ module _ (z t : ℕ) (m : List ℕ) (asked : CutAsked z (length m)) (small : t �
     unfolding lastPiece
     whole-buffer = placed-cut (z - 1) (z - 1) (omega (arith, asked .size-least)) m b (omega (arith, asked .few-octets))
 
-    all-pieces : run (empty true) b (messagePieces z t m)
+    pub all-pieces : run (empty true) b (messagePieces z t m)
         ≡ record {
           answers = replicate N (answered "more" []) ++ (answered "whole" (t ∷ n ∷ []) ∷ []);
           transfer = empty true;
@@ -220,6 +194,3 @@ module _ (z t : ℕ) (m : List ℕ) (asked : CutAsked z (length m)) (small : t �
         ∙ run-snoc (empty true) b (map (pieceOctets z t m) (upTo N)) (pieceOctets z t m N)
         ∙ rw (run-front N (omega arith))
         (rw (buffer-long N (omega arith), buffer-next N (omega arith) (rw last), last, whole-buffer))
-
-pub back : Back
-back z t m b c h room = all-pieces z t m (cut-asked z (length m) c) (leb-true t 3 h) b room
