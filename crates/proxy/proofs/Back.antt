@@ -4,15 +4,16 @@ use native.Mathlib.Omega.{arith}
 use mathlib.Core.Bool.{true, false, _||_}
 use mathlib.Core.List.{List, [], _∷_, _++_, map}
 use mathlib.Core.Path.{_≡_, refl, sym, ap, _∙_}
-use lib.Dec.{ltb, eqb}
+use lib.Dec.{eqb}
 use lib.ListN.{length, drop, replicate}
 use borrow.Author.Tests.{ltb-true, ltb-false, eqb-true, le-leb, eq-eqb, ne-eqb}
+use Rattle.octets.specs.Parts.{write}
 use Rattle.octets.specs.Cut.{piece, upTo, placed}
 use Rattle.octets.specs.Told.{answered}
 use Rattle.octets.proofs.Parts.{write-length}
 use Rattle.octets.proofs.Cut.{map-up-to, placed-cut}
 use Rattle.octets.proofs.Tests.{cases}
-use Rattle.proxy.specs.Pieces.{isType, piecePlace, lastPiece, topBits, pieceOctets, messagePieces, CutAsked}
+use Rattle.proxy.specs.Pieces.{isType, piecePlace, lastPiece, isWhole, topBits, pieceOctets, messagePieces, CutAsked}
 use Rattle.proxy.specs.Transfers.{empty, isGood, isRefused, topOf, typeOf, isExpected, isLikeFirst, heldLength, complete, added, joining, offered, pieceRead, bufferAfter, told}
 use Rattle.proxy.specs.Promises.{Run, run}
 use Rattle.proxy.specs.declared.HalfTransfer.{HalfTransfer}
@@ -67,16 +68,16 @@ module _ (z t : ℕ) (m : List ℕ) (asked : CutAsked z (length m)) (small : t �
 
   expected-top : (k : ℕ) → k ≤ N → isExpected (heldAt k) (topBits z n k) ≡ true
   unfolding topBits
-  expected-top zero h = cases (ltb n z) (λ e. rw e) (λ e. rw e)
+  expected-top zero h = cases (isWhole z n) (λ e. rw e) (λ e. rw e)
   expected-top (suc k) h =
-      cases (ltb n z)
+      cases (isWhole z n)
       (λ e. absurd (omega (arith, one-piece z n asked (ltb-true n z e))))
       (λ e. rw (e, ne-eqb (suc k) 0 (λ q. absurd (omega arith))) (cases (eqb (suc k) N) (λ e. rw e) (λ e. rw e)))
 
   ending-top : (k : ℕ) → k ≤ N → (eqb (topBits z n k) 0 || eqb (topBits z n k) 3) ≡ eqb k N
   unfolding topBits
   ending-top k h =
-      cases (ltb n z)
+      cases (isWhole z n)
       (λ e. rw e (sym (eq-eqb k N (omega (arith, one-piece z n asked (ltb-true n z e))))))
       (λ e. rw e (cases (eqb k 0)
       (λ f. rw f (sym (ne-eqb k N (λ q. absurd (omega (arith, eqb-true k 0 f, more-pieces z n asked (ltb-false n z e)))))))
@@ -165,7 +166,7 @@ module _ (z t : ℕ) (m : List ℕ) (asked : CutAsked z (length m)) (small : t �
     buffer-next : (k : ℕ) → k ≤ N → isRefused (pieceRead (holding (heldAt k)) 1469 (pieceOctets z t m k) .answer) ≡ false
         → bufferAfter (holding (heldAt k)) (bufferAt k) (pieceOctets z t m k) ≡ bufferAt (suc k)
     unfolding bufferAfter pieceOctets
-    buffer-next k h e = rw (buffer-long k (omega arith), e, held-place k)
+    buffer-next k h e = rw (buffer-long k (omega arith), e) (ap (λ (at : ℕ). write (bufferAt k) at (piece (piecePlace z) n m k)) (held-place k))
 
     -- the first k pieces, read
     run-front : (k : ℕ) → k ≤ N
