@@ -78,8 +78,8 @@ pub piece-within : (z t n k : ℕ) → PieceAsked z t n k → (z - 1) * k < n
 piece-within z t n k a = rw (← (place-times (z - 1) k)) (begins z n (a .cut) k (a .index))
 
 -- how many octets of the message a piece has
-pub size-least : (z n k : ℕ) → sizeOf (piecePlace z) n k ≡ min (z - 1) (n - (z - 1) * k)
-size-least z n k =
+pub piece-size : (z n k : ℕ) → sizeOf (piecePlace z) n k ≡ min (z - 1) (n - (z - 1) * k)
+piece-size z n k =
     let p = place-times (z - 1) k in
     omega arith
 
@@ -93,14 +93,14 @@ data-long z m k = piece-length (piecePlace z) refl (place-up (z - 1) (z - 1)) (l
 
 pub piece-long : (z t : ℕ) (m : List ℕ) (k : ℕ) → length (pieceOctets z t m k) ≡ suc (min (z - 1) (length m - (z - 1) * k))
 unfolding pieceOctets
-piece-long z t m k = ap suc (data-long z m k ∙ size-least z (length m) k)
+piece-long z t m k = ap suc (data-long z m k ∙ piece-size z (length m) k)
 
 -- a piece, by the part of the message that it holds
 pub piece-part : (z t : ℕ) (m : List ℕ) (k : ℕ)
     → pieceOctets z t m k ≡ firstOctet z t (length m) k ∷ part m ((z - 1) * k) (min (z - 1) (length m - (z - 1) * k))
 unfolding pieceOctets piece
 piece-part z t m k =
-    ap₂ (λ (from count : ℕ). firstOctet z t (length m) k ∷ part m from count) (place-times (z - 1) k) (size-least z (length m) k)
+    ap₂ (λ (from count : ℕ). firstOctet z t (length m) k ∷ part m from count) (place-times (z - 1) k) (piece-size z (length m) k)
 
 -- an octet and a copy behind it are one write
 pub octet-copied : (l : List ℕ) (x : ℕ) (m : List ℕ) (from count : ℕ) → 1 + count ≤ length l → from + count ≤ length m
