@@ -9,7 +9,7 @@ use lib.Dec.{leb}
 use lib.ListN.{length, set}
 use borrow.Author.Tests.{leb-true, leb-false}
 use Rattle.octets.specs.Parts.{part, write, copied}
-use Rattle.octets.specs.Cut.{placeOf, lastOf, sizeOf, piece}
+use Rattle.octets.specs.Cut.{placeOf, sizeOf, piece}
 use Rattle.octets.proofs.Parts.{part-length, write-length, write-nothing, write-octet, write-next, copied-part}
 use Rattle.octets.proofs.Cut.{place-up, piece-length, piece-begins, last-enough, last-least}
 use Rattle.octets.proofs.Tests.{cases, both-hold}
@@ -46,33 +46,61 @@ pub place-times : (a k : ℕ) → placeOf a a k ≡ a * k
 place-times a zero = sym (mul-zero a)
 place-times a (suc k) = omega (arith, mul-suc a k)
 
--- a piece begins within its message
+-- a message of n octets that is cut
+module _ (z n : ℕ) (asked : CutAsked z n) where
+  -- there are no more pieces than octets
+  pub last-small : lastPiece z n < n
+  last-small = omega (arith, last-divided z n asked, div-le-self (n - 1) (z - 1), asked .some-octets)
+
+  -- each piece begins within the message
+  pub begins : (k : ℕ) → k ≤ lastPiece z n → piecePlace z k < n
+  unfolding lastPiece
+  begins k h = piece-begins (z - 1) (z - 1) n k (omega (arith, asked .size-least)) (asked .some-octets) h
+
+  -- the last one ends with it
+  pub last-ends : n ≤ piecePlace z (suc (lastPiece z n))
+  unfolding lastPiece
+  last-ends = last-enough (z - 1) (z - 1) n (omega (arith, asked .size-least))
+
+  -- there is one piece exactly if the message is shorter than the size
+  pub one-piece : n < z → lastPiece z n ≡ 0
+  unfolding lastPiece
+  one-piece h = omega (arith, last-least (z - 1) (z - 1) n 0 (omega (arith, asked .size-least)) (omega arith))
+
+  pub more-pieces : z ≤ n → 0 < lastPiece z n
+  more-pieces h = go (lastPiece z n) refl
+    where
+      go : (q : ℕ) → lastPiece z n ≡ q → 0 < q
+      go zero e = absurd (omega (arith, rw e at last-ends, asked .size-least))
+      go (suc j) e = omega arith
+
 pub piece-within : (z t n k : ℕ) → PieceAsked z t n k → (z - 1) * k < n
-unfolding lastPiece
-piece-within z t n k a =
-    rw (← (place-times (z - 1) k))
-    (piece-begins (z - 1) (z - 1) n k (omega (arith, a .cut .size-least)) (a .cut .some-octets) (a .index))
+piece-within z t n k a = rw (← (place-times (z - 1) k)) (begins z n (a .cut) k (a .index))
 
 -- how many octets of the message a piece has
-pub size-least : (z n k : ℕ) → sizeOf (piecePlace z) n k ≡ min (z - 1) (n - (z - 1) * k)
-size-least z n k =
+pub piece-size : (z n k : ℕ) → sizeOf (piecePlace z) n k ≡ min (z - 1) (n - (z - 1) * k)
+piece-size z n k =
     let p = place-times (z - 1) k in
     omega arith
 
--- there are no more pieces than octets
-pub last-small : (z n : ℕ) → CutAsked z n → lastPiece z n < n
-last-small z n a = omega (arith, last-divided z n a, div-le-self (n - 1) (z - 1), a .some-octets)
+-- each piece stands behind the one before it
+pub place-next : (z k : ℕ) → piecePlace z (suc k) ≡ piecePlace z k + (z - 1)
+place-next z zero = omega arith
+place-next z (suc k) = omega (arith, mul-suc (z - 1) k)
+
+pub data-long : (z : ℕ) (m : List ℕ) (k : ℕ) → length (piece (piecePlace z) (length m) m k) ≡ sizeOf (piecePlace z) (length m) k
+data-long z m k = piece-length (piecePlace z) refl (place-up (z - 1) (z - 1)) (length m) m k (omega arith)
 
 pub piece-long : (z t : ℕ) (m : List ℕ) (k : ℕ) → length (pieceOctets z t m k) ≡ suc (min (z - 1) (length m - (z - 1) * k))
 unfolding pieceOctets
-piece-long z t m k = ap suc (piece-length (piecePlace z) refl (place-up (z - 1) (z - 1)) (length m) m k (omega arith) ∙ size-least z (length m) k)
+piece-long z t m k = ap suc (data-long z m k ∙ piece-size z (length m) k)
 
 -- a piece, by the part of the message that it holds
 pub piece-part : (z t : ℕ) (m : List ℕ) (k : ℕ)
     → pieceOctets z t m k ≡ firstOctet z t (length m) k ∷ part m ((z - 1) * k) (min (z - 1) (length m - (z - 1) * k))
 unfolding pieceOctets piece
 piece-part z t m k =
-    ap₂ (λ (from count : ℕ). firstOctet z t (length m) k ∷ part m from count) (place-times (z - 1) k) (size-least z (length m) k)
+    ap₂ (λ (from count : ℕ). firstOctet z t (length m) k ∷ part m from count) (place-times (z - 1) k) (piece-size z (length m) k)
 
 -- an octet and a copy behind it are one write
 pub octet-copied : (l : List ℕ) (x : ℕ) (m : List ℕ) (from count : ℕ) → 1 + count ≤ length l → from + count ≤ length m

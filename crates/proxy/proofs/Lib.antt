@@ -1,2 +1,4 @@
 pub mod Laws
 pub mod Reading
+pub mod Back
+pub mod Promises

@@ -29,9 +29,13 @@ piecePlace z k = placeOf (z - 1) (z - 1) k
 unfoldable pub lastPiece : ℕ → ℕ → ℕ
 lastPiece z n = lastOf (z - 1) (z - 1) n
 
--- the top two bits of piece k of n octets: "0 whole, 1 first, 2 middle, 3 last", and whole "if n is below the size"
+-- whole "if n is below the size"
+abbrev pub isWhole : ℕ → ℕ → Bool
+isWhole z n = ltb n z
+
+-- the top two bits of piece k of n octets: "0 whole, 1 first, 2 middle, 3 last"
 unfoldable pub topBits : ℕ → ℕ → ℕ → ℕ
-topBits z n k = cond (ltb n z) 0 (cond (eqb k 0) 1 (cond (eqb k (lastPiece z n)) 3 2))
+topBits z n k = cond (isWhole z n) 0 (cond (eqb k 0) 1 (cond (eqb k (lastPiece z n)) 3 2))
 
 -- the first octet of piece k: "top two bits", "low six the type"
 abbrev pub firstOctet : ℕ → ℕ → ℕ → ℕ → ℕ

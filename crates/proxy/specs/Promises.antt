@@ -1,13 +1,16 @@
 -- What is promised of the proxy transfer beyond each call's contract. The proofs are `proofs/Promises.antt`.
-use Prim.Native.Nat.{ℕ}
+use Prim.Native.Nat.{ℕ, _+_, _*_, _-_, _≤_, _<_}
 use mathlib.Core.Bool.{Bool, true, false, _&&_}
-use mathlib.Core.List.{List, [], _∷_, _++_}
+use mathlib.Core.List.{List, [], _∷_, _++_, map}
 use mathlib.Core.Path.{_≡_}
 use lib.Dec.{leb}
-use lib.ListN.{length, drop, replicate}
+use lib.ListN.{length, take, drop, getD, replicate}
+use Rattle.octets.specs.Cut.{joined}
 use Rattle.octets.specs.Told.{Told, refused, answered}
-use Rattle.proxy.specs.Pieces.{isCut, isType, lastPiece, messagePieces, piecesCounted, countTold}
-use Rattle.proxy.specs.Transfers.{empty, isGood, connecting, connectTold, pieceRead, bufferAfter, told}
+use Rattle.octets.specs.Writing.{written, outputAfter}
+use Rattle.octets.specs.declared.Written.the-variants.{Count}
+use Rattle.proxy.specs.Pieces.{isCut, isType, isPiece, lastPiece, pieceOctets, messagePieces, piecesCounted, countTold}
+use Rattle.proxy.specs.Transfers.{empty, isGood, setConnected, connectionTold, dataOf, pieceRead, bufferAfter, told}
 use Rattle.proxy.specs.declared.Transfer.{Transfer}
 
 -- ---- refusals, and good states
@@ -25,13 +28,13 @@ pub record PieceRefused (s : Transfer) (b p : List ℕ) (n : ℕ) : Type 0 where
 abbrev pub RefusalKeeps : Type 0
 RefusalKeeps = (s : Transfer) (b p : List ℕ) (n : ℕ) → told (pieceRead s (length b) p .answer) ≡ refused n → PieceRefused s b p n
 
-abbrev pub ConnectRefusalKeeps : Type 0
-ConnectRefusalKeeps = (c : Bool) (s : Transfer) (n : ℕ) → connectTold (connecting c s .answer) ≡ refused n → connecting c s .transfer ≡ s
+abbrev pub ConnectionRefusalKeeps : Type 0
+ConnectionRefusalKeeps = (c : Bool) (s : Transfer) (n : ℕ) → connectionTold (setConnected c s .answer) ≡ refused n → setConnected c s .transfer ≡ s
 
 -- a good transfer stays good under every call, and a new one is good
 pub record KeepsGood : Type 0 where
   pub new : isGood (empty false) ≡ true
-  pub connects : (c : Bool) (s : Transfer) → isGood s ≡ true → isGood (connecting c s .transfer) ≡ true
+  pub connects : (c : Bool) (s : Transfer) → isGood s ≡ true → isGood (setConnected c s .transfer) ≡ true
   pub reads : (s : Transfer) (b p : List ℕ) → isGood s ≡ true → isGood (pieceRead s (length b) p .transfer) ≡ true
 
 -- ---- pieces read one after the other
@@ -61,7 +64,31 @@ Back =
       buffer = m ++ drop (length m) b;
     }
 
+-- ---- the list of pieces
+
 -- "The number of pieces reported is the length of that list."
 abbrev pub CountIsLength : Type 0
 CountIsLength =
     (z t : ℕ) (m : List ℕ) → isCut z (length m) ≡ true → countTold (piecesCounted z (length m)) ≡ answered "pieces" (length (messagePieces z t m) ∷ [])
+
+-- what was written is the piece of that number in the list
+abbrev pub WritesPieces : Type 0
+WritesPieces =
+    (z t : ℕ) (m : List ℕ) (k : ℕ) (output : List ℕ) (n : ℕ) → written (isPiece z t m k) (pieceOctets z t m k) output ≡ Count n
+    → take n (outputAfter (isPiece z t m k) (pieceOctets z t m k) output) ≡ getD (messagePieces z t m) k []
+
+-- the cut in document 01's words
+pub record CutAsSaid (z t : ℕ) (m : List ℕ) : Type 0 where
+  -- "goes whole if n is below the size"
+  pub whole : length m < z → messagePieces z t m ≡ (t ∷ m) ∷ []
+  -- "else in full pieces of size less one"
+  pub full : (k : ℕ) → k < lastPiece z (length m) → length (dataOf (pieceOctets z t m k)) ≡ z - 1
+  -- "the last of what remains"
+  pub remains : length (dataOf (pieceOctets z t m (lastPiece z (length m)))) + (z - 1) * lastPiece z (length m) ≡ length m
+  -- and at least one octet
+  pub some-octet : 1 ≤ length (dataOf (pieceOctets z t m (lastPiece z (length m))))
+  -- all octets, in order
+  pub in-order : joined (map dataOf (messagePieces z t m)) ≡ m
+
+abbrev pub CutsAsSaid : Type 0
+CutsAsSaid = (z t : ℕ) (m : List ℕ) → isCut z (length m) ≡ true → CutAsSaid z t m

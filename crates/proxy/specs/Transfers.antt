@@ -10,9 +10,9 @@ use Rattle.proxy.specs.Pieces.{isLength, isType}
 use Rattle.proxy.specs.declared.HalfTransfer.{HalfTransfer}
 use Rattle.proxy.specs.declared.HalfTransfer.the-variants.{Nothing, Held}
 use Rattle.proxy.specs.declared.Transfer.{Transfer}
-use Rattle.proxy.specs.declared.Connected.{Connected}
-use Rattle.proxy.specs.declared.ConnectAnswer.{ConnectAnswer}
-use Rattle.proxy.specs.declared.ConnectAnswer.the-variants as C
+use Rattle.proxy.specs.declared.ConnectionSet.{ConnectionSet}
+use Rattle.proxy.specs.declared.ConnectionAnswer.{ConnectionAnswer}
+use Rattle.proxy.specs.declared.ConnectionAnswer.the-variants as C
 use Rattle.proxy.specs.declared.PieceRefusal.{PieceRefusal}
 use Rattle.proxy.specs.declared.PieceRefusal.the-variants as R
 use Rattle.proxy.specs.declared.PieceAnswer.{PieceAnswer}
@@ -33,12 +33,12 @@ isGood s = isGoodHalf (s .connected) (s .half)
 
 -- ---- connect and disconnect: 14, or "starts empty"
 
-unfoldable pub connecting : Bool → Transfer → Connected
-connecting connected s = cond (isGood s) (record { transfer = empty connected; answer = C.Done }) (record { transfer = s; answer = C.BadState })
+unfoldable pub setConnected : Bool → Transfer → ConnectionSet
+setConnected connected s = cond (isGood s) (record { transfer = empty connected; answer = C.Done }) (record { transfer = s; answer = C.BadState })
 
-abbrev pub connectTold : ConnectAnswer → Told
-connectTold C.Done = answered "done" []
-connectTold C.BadState = refused 14
+abbrev pub connectionTold : ConnectionAnswer → Told
+connectionTold C.Done = answered "done" []
+connectionTold C.BadState = refused 14
 
 -- ---- a piece
 

@@ -5,11 +5,10 @@ use octets::octet_at;
 ghost use mathlib.Core.Path.{_≡_};
 ghost use mathlib.Core.Bool.{true, false};
 ghost use Prim.Native.Nat.{_+_, _-_, _≤_, min};
-ghost use lib.Dec.{leb};
 ghost use lib.ListN.{length};
 ghost use Rattle.octets.specs.Writing.{written, outputAfter};
 ghost use Rattle.proxy.specs.Pieces.{isCut, lastPiece, firstOctet, pieceOctets, piecesCounted, isPiece, CutAsked, PieceAsked};
-ghost use Rattle.proxy.specs.Transfers.{refusalNumber, empty, isGood, connecting, heldLength, isExpected, isLikeFirst, refusing, disconnecting, complete, added, joining, offered, pieceRead, isRefused, bufferAfter};
+ghost use Rattle.proxy.specs.Transfers.{refusalNumber, empty, isGood, setConnected, heldLength, isExpected, isLikeFirst, refusing, disconnecting, complete, added, joining, offered, pieceRead, isRefused, bufferAfter};
 
 // The answer of the count of pieces.
 pub enum PieceCount {
@@ -29,15 +28,15 @@ pub struct Transfer {
     pub half: HalfTransfer,
 }
 
-pub enum ConnectAnswer {
+pub enum ConnectionAnswer {
     Done,
     BadState,
 }
 
-// The transfer after connecting or disconnecting, and the answer.
-pub struct Connected {
+// The transfer after setConnected or disconnecting, and the answer.
+pub struct ConnectionSet {
     pub transfer: Transfer,
-    pub answer: ConnectAnswer,
+    pub answer: ConnectionAnswer,
 }
 
 pub enum PieceRefusal {
@@ -217,31 +216,31 @@ fn is_good(transfer: Transfer) -> bool
     }
 }
 
-fn set_connected(connected: bool, transfer: Transfer) -> Connected
-    ensures { λ r. ⌜ r ≡ connecting connected transfer ⌝ }
+fn set_connected(connected: bool, transfer: Transfer) -> ConnectionSet
+    ensures { λ r. ⌜ r ≡ setConnected connected transfer ⌝ }
 {
     if is_good(transfer) {
-        return Connected {
+        return ConnectionSet {
             transfer: with_nothing(connected),
-            answer: ConnectAnswer::Done,
+            answer: ConnectionAnswer::Done,
         };
     }
-    Connected {
+    ConnectionSet {
         transfer: transfer,
-        answer: ConnectAnswer::BadState,
+        answer: ConnectionAnswer::BadState,
     }
 }
 
 // Connects, with nothing half-received.
-pub fn connect(transfer: Transfer) -> Connected
-    ensures { λ r. ⌜ r ≡ connecting true transfer ⌝ }
+pub fn connect(transfer: Transfer) -> ConnectionSet
+    ensures { λ r. ⌜ r ≡ setConnected true transfer ⌝ }
 {
     set_connected(true, transfer)
 }
 
 // Disconnects, and drops what is half-received.
-pub fn disconnect(transfer: Transfer) -> Connected
-    ensures { λ r. ⌜ r ≡ connecting false transfer ⌝ }
+pub fn disconnect(transfer: Transfer) -> ConnectionSet
+    ensures { λ r. ⌜ r ≡ setConnected false transfer ⌝ }
 {
     set_connected(false, transfer)
 }

@@ -62,7 +62,7 @@ returns-2 c =
     octet-copied (a .output .now) (firstOctet (a .size) (a .kind) (length m) (a .index)) m from count (omega arith) (omega arith)
     ∙ sym (output-fits d (a .output .now) room ∙ rw (piece-part (a .size) (a .kind) m (a .index))) in (
       ap Count (omega arith) ∙ sym (written-fits d (a .output .now) room),
-      c .before .before .copy .ensures .1 ∙ rw (taken, c .before .before .before .before .first-octet .ensures) copied-after,
+      rw (c .before .before .copy .ensures .1, taken, c .before .before .before .before .first-octet .ensures) copied-after,
     )
 
 pub put-piece-spec : {M : Type 1} → statement M

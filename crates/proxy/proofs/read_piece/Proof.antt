@@ -43,8 +43,7 @@ returns-2 c =
     let d = c .before .before .before .before .before .before in
     let a = d .before .before .before .before .args in (
       d .before .judge .ensures,
-      c .before .before .copy .ensures .1
-          ∙ rw (c .before .before .before .held-length .ensures .0)
+      rw (c .before .before .copy .ensures .1, c .before .before .before .held-length .ensures .0)
           (buffer-added (a .transfer) (a .buffer .now) (a .piece .now) (judged (d .before .judge .ensures) (d .is-refused .ensures) (c .before .before .before .before .before .if1 .left))),
     )
 

@@ -1,4 +1,4 @@
-use Rattle.proxy.specs.Transfers.{connecting}
+use Rattle.proxy.specs.Transfers.{setConnected}
 use borrow.Author.Needs.{needs}
 use Rattle.proxy.proofs.set_connected.Statement.{statement}
 use Rattle.proxy.proofs.set_connected.Tie as tie
@@ -10,11 +10,11 @@ with-nothing-requires : tie.Need-with-nothing-requires
 with-nothing-requires c κs = search needs
 
 returns : tie.Need-returns
-unfolding connecting
+unfolding setConnected
 returns c = simp (c .with-nothing .ensures, ← (c .before .before .is-good .ensures), c .before .if1 .taken)
 
 returns-2 : tie.Need-returns-2
-unfolding connecting
+unfolding setConnected
 returns-2 c = simp (← (c .before .is-good .ensures), c .if1 .left)
 
 pub set-connected-spec : {M : Type 1} → statement M
