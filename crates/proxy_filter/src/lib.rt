@@ -333,12 +333,12 @@ impl Filter {
         let place = self.find_from(0, address);
         match change {
             Change::Add => match place {
-                Place::At(_) => self,
-                Place::Nowhere => self.append(address),
+                Place::At(_) => return self,
+                Place::Nowhere => return self.append(address),
             },
             Change::Remove => match place {
-                Place::At(at) => self.remove_at(at),
-                Place::Nowhere => self,
+                Place::At(at) => return self.remove_at(at),
+                Place::Nowhere => return self,
             },
         }
     }
@@ -390,17 +390,18 @@ impl Filter {
             match request {
                 Request::SetType(kind) => {
                     self = Filter::empty(kind);
-                    self.report()
+                    return self.report();
                 }
                 Request::Change(change) => {
                     self = self.change_all(change, message);
-                    self.report()
+                    return self.report();
                 }
-                Request::Refused(refusal) => self.refuse(refusal),
+                Request::Refused(refusal) => {
+                    return self.refuse(refusal);
+                }
             }
-        } else {
-            self.refuse(FilterRefusal::BadState)
         }
+        self.refuse(FilterRefusal::BadState)
     }
 
     // The source address of a network message heard from the proxy client.
@@ -411,13 +412,11 @@ impl Filter {
             if is_unicast(source) {
                 let kind = self.kind;
                 self = self.change_one(change_for(kind), source);
-                self.report()
-            } else {
-                self.refuse(FilterRefusal::NotUnicast)
+                return self.report();
             }
-        } else {
-            self.refuse(FilterRefusal::BadState)
+            return self.refuse(FilterRefusal::NotUnicast);
         }
+        self.refuse(FilterRefusal::BadState)
     }
 
     // Whether a network message with a destination address is passed on to the proxy client.
