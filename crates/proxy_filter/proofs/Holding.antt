@@ -1,10 +1,10 @@
 -- A filter that isn't bad is the one that holds its list, and so are the filters that come of adding and removing.
 use Prim.Native.Nat.{ℕ, zero, suc, _+_, _-_, _<_, _≤_}
 use native.Mathlib.Omega.{arith}
-use mathlib.Core.Bool.{true, _&&_, and-eq-true-iff}
+use mathlib.Core.Bool.{true, and-eq-true-iff}
 use mathlib.Core.List.{List, [], _∷_, _++_, append-assoc}
 use mathlib.Core.Path.{_≡_, refl, sym, ap, _∙_}
-use lib.Dec.{leb, eqb}
+use lib.Dec.{leb}
 use lib.ListN.{length, take, drop, set, replicate, length-append, length-drop, take-append-drop, length-replicate, replicate-append-replicate}
 use lib.Seq.{take-append-le, drop-append-le, take-at, drop-at, set-at, length-take-le, append-snoc}
 use borrow.Author.Tests.{le-leb, lt-leb, leb-true, eqb-true}

@@ -1,21 +1,20 @@
 -- Lists with no repeat and no 0x0000 stay so.
-use Prim.Native.Nat.{ℕ, zero, suc, _+_, _-_, _<_, _≤_}
+use Prim.Native.Nat.{ℕ, suc, _+_, _-_, _≤_}
 use native.Mathlib.Omega.{arith}
 use mathlib.Core.Bool.{Bool, true, false, _&&_, _||_, not, and-eq-true-iff}
 use mathlib.Core.List.{List, [], _∷_, _++_}
 use mathlib.Core.Path.{_≡_, refl, sym, ap, _∙_}
 use lib.Dec.{leb, eqb}
-use lib.ListN.{length, take, drop, length-append, length-take}
-use lib.Seq.{take-at, drop-at}
-use borrow.Author.Tests.{eq-eqb, ne-eqb, eqb-true, eqb-false, leb-true, leb-false, not-true}
+use lib.ListN.{length, drop, length-append, length-take}
+use lib.Seq.{take-at}
+use borrow.Author.Tests.{eq-eqb, ne-eqb, eqb-true, eqb-false, leb-false, not-true}
 use Rattle.octets.proofs.Tests.{cases}
-use Rattle.proxy_filter.specs.Filters.{entry, held, isGood, isOn, find, findFrom, noneBad}
+use Rattle.proxy_filter.specs.Filters.{entry, held, isGood, isOn, find, noneBad}
 use Rattle.proxy_filter.specs.Calls.{without, changed, changedAt, changedAll}
 use Rattle.proxy_filter.specs.Promises.{allBut}
 use Rattle.proxy_filter.specs.declared.Entry.{Entry}
 use Rattle.proxy_filter.specs.declared.Filter.{Filter}
 use Rattle.proxy_filter.specs.declared.Place.{Place}
-use Rattle.proxy_filter.specs.declared.Place.the-variants.{At, Nowhere}
 use Rattle.proxy_filter.specs.declared.Change.{Change}
 use Rattle.proxy_filter.specs.declared.Change.the-variants.{Add, Remove}
 use Rattle.proxy_filter.proofs.Lookup.{Found, there, absent, found}

@@ -1,19 +1,17 @@
 -- The promises of the filter.
 use Prim.Native.Nat.{ℕ, suc, _+_, _-_, _*_, _%_, _<_, _≤_}
-use Prim.Native.String.{String}
 use native.Mathlib.Nat.{div-add-mod'}
 use native.Mathlib.Omega.{arith}
-use mathlib.Core.Bool.{Bool, true, false, _&&_, _||_, not, cond, and-eq-true-iff}
+use mathlib.Core.Bool.{true, false, not, and-eq-true-iff}
 use mathlib.Core.List.{List, [], _∷_, _++_}
-use mathlib.Core.Path.{_≡_, refl, sym, ap, _∙_}
+use mathlib.Core.Path.{_≡_, refl, sym, _∙_}
 use lib.Dec.{leb, eqb}
-use lib.ListN.{length, drop, getD}
-use borrow.Author.Tests.{le-leb, lt-leb, eq-eqb, ne-eqb, eqb-true, eqb-false, leb-true, leb-false, not-true}
-use Rattle.octets.specs.Told.{Told, refused, answered}
+use lib.ListN.{length, drop}
+use borrow.Author.Tests.{le-leb, lt-leb, ne-eqb, eqb-true, leb-true}
 use Rattle.octets.proofs.Tests.{cases}
-use Rattle.proxy_filter.specs.Filters.{entry, held, holding, isOn, find, findFrom, noneBad, isGood}
-use Rattle.proxy_filter.specs.Calls.{new, appended, without, changed, changedAt, changedAll, addresses, typeOf, changeOf, requestOf, statusOctets, performed, controlled, changeFor, isUnicast, learned, passing, passAnswer, reporting, refusing, told, passTold}
-use Rattle.proxy_filter.specs.Promises.{Safe, AllSafe, octetsOf, Messages, AllMessages, afterAdding, Addition, Additions, afterRemoving, allBut, Removal, Removals, decision, Passing, AllPassing, Learning, AllLearning}
+use Rattle.proxy_filter.specs.Filters.{entry, held, holding, isOn, find, isGood}
+use Rattle.proxy_filter.specs.Calls.{changed, changedAt, addresses, changeOf, requestOf, statusOctets, performed, controlled, changeFor, isUnicast, learned, passing, passAnswer, reporting, refusing, passTold}
+use Rattle.proxy_filter.specs.Promises.{Safe, AllSafe, octetsOf, AllMessages, afterAdding, Additions, afterRemoving, Removals, decision, AllPassing, AllLearning}
 use Rattle.proxy_filter.specs.declared.FilterType.{FilterType}
 use Rattle.proxy_filter.specs.declared.FilterType.the-variants.{AcceptList, RejectList}
 use Rattle.proxy_filter.specs.declared.Entry.{Entry}
@@ -26,9 +24,8 @@ use Rattle.proxy_filter.specs.declared.Request.{Request}
 use Rattle.proxy_filter.specs.declared.Request.the-variants as Q
 use Rattle.proxy_filter.specs.declared.FilterRefusal.{FilterRefusal}
 use Rattle.proxy_filter.specs.declared.FilterRefusal.the-variants as R
-use Rattle.proxy_filter.specs.declared.FilterStep.{FilterStep}
 use Rattle.proxy_filter.proofs.Lookup.{isThere, on-found}
-use Rattle.proxy_filter.proofs.Holding.{held-holding, kind-holding, count-holding, good-holding, held-length, rebuilt}
+use Rattle.proxy_filter.proofs.Holding.{held-holding, kind-holding, count-holding, good-holding, rebuilt}
 use Rattle.proxy_filter.proofs.Lists.{Fine, fine-held, fine-changed, fine-all, off-zero, on-after, off-after, others-left, around-left}
 
 -- ---- every call
