@@ -82,12 +82,6 @@ pub fn status_octets(kind: FilterType, count: u8) -> [u8; 4]
     }
 }
 
-fn is_unused(entry: Entry) -> bool
-    ensures { λ r. ⌜ r ≡ eqb (entry .address) 0 ⌝ }
-{
-    entry.address == 0
-}
-
 // The entries with the one at a place taken out, those after it moved down by one, and the last place not in use.
 fn close_place(entries: [Entry; 16], at: usize) -> [Entry; 16]
     requires { ⌜ at < 16 ⌝ }
@@ -182,12 +176,12 @@ fn pass_answer(kind: FilterType, place: Place) -> PassAnswer
 {
     match kind {
         FilterType::AcceptList => match place {
-            Place::At(_) => PassAnswer::Passes,
-            Place::Nowhere => PassAnswer::DoesNotPass,
+            Place::At(_) => return PassAnswer::Passes,
+            Place::Nowhere => return PassAnswer::DoesNotPass,
         },
         FilterType::RejectList => match place {
-            Place::At(_) => PassAnswer::DoesNotPass,
-            Place::Nowhere => PassAnswer::Passes,
+            Place::At(_) => return PassAnswer::DoesNotPass,
+            Place::Nowhere => return PassAnswer::Passes,
         },
     }
 }
@@ -272,7 +266,7 @@ impl Filter {
         let mut i = count;
         while i < 16 {
             let entry = entries[i];
-            if is_unused(entry) {
+            if entry.address == 0 {
                 i += 1;
             } else {
                 return false;
