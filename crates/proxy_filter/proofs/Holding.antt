@@ -9,7 +9,7 @@ use lib.ListN.{length, take, drop, set, replicate, length-append, length-drop, t
 use lib.Seq.{take-append-le, drop-append-le, take-at, drop-at, set-at, length-take-le, append-snoc}
 use borrow.Author.Tests.{le-leb, lt-leb, leb-true, eqb-true}
 use Rattle.octets.proofs.Tests.{both-hold}
-use Rattle.proxy_filter.specs.Filters.{entry, unused, held, past, holding, noneBad, allUnused, isGood}
+use Rattle.proxy_filter.specs.Filters.{entry, unused, held, past, holding, allAllowed, allUnused, isGood}
 use Rattle.proxy_filter.specs.Calls.{appended, without}
 use Rattle.proxy_filter.specs.declared.FilterType.{FilterType}
 use Rattle.proxy_filter.specs.declared.Entry.{Entry}
@@ -48,7 +48,7 @@ pub long-holding : (kind : FilterType) (l : List Entry) → length l ≤ 16 → 
 unfolding holding
 long-holding kind l h = omega (arith, length-append l (replicate (16 - length l) unused), length-replicate (16 - length l) unused)
 
-pub good-holding : (kind : FilterType) (l : List Entry) → length l ≤ 16 → noneBad l ≡ true → isGood (holding kind l) ≡ true
+pub good-holding : (kind : FilterType) (l : List Entry) → length l ≤ 16 → allAllowed l ≡ true → isGood (holding kind l) ≡ true
 unfolding isGood holding
 good-holding kind l n h =
     let z = replicate (16 - length l) unused in
@@ -56,14 +56,14 @@ good-holding kind l n h =
 
 -- ---- a filter that isn't bad
 
-good-parts : (f : Filter) → isGood f ≡ true → (leb (f .count) 16 ≡ true) × ((noneBad (held f) ≡ true) × (allUnused (past f) ≡ true))
+good-parts : (f : Filter) → isGood f ≡ true → (leb (f .count) 16 ≡ true) × ((allAllowed (held f) ≡ true) × (allUnused (past f) ≡ true))
 unfolding isGood
-good-parts f h = let b = and-eq-true-iff (leb (f .count) 16) _ .0 h in (b .0, and-eq-true-iff (noneBad (held f)) _ .0 (b .1))
+good-parts f h = let b = and-eq-true-iff (leb (f .count) 16) _ .0 h in (b .0, and-eq-true-iff (allAllowed (held f)) _ .0 (b .1))
 
 pub good-count : (f : Filter) → isGood f ≡ true → f .count ≤ 16
 good-count f h = leb-true (f .count) 16 (good-parts f h .0)
 
-pub good-held : (f : Filter) → isGood f ≡ true → noneBad (held f) ≡ true
+pub good-held : (f : Filter) → isGood f ≡ true → allAllowed (held f) ≡ true
 good-held f h = good-parts f h .1 .0
 
 module _ (f : Filter) (long : length (f .entries) ≡ 16) (good : isGood f ≡ true) where

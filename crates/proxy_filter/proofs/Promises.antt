@@ -40,12 +40,12 @@ safe-refusing f r = record {
 safe-reporting : (f : Filter) (kind : FilterType) (l : List Entry) → Fine l → Safe f (reporting (holding kind l))
 safe-reporting f kind l h = record {
   refusal-keeps = λ n e. let z : _≡_ {A = ℕ} 0 1 = cc in absurd (omega arith);
-  keeps-good = λ g. good-holding kind l (h .few) (h .none);
+  keeps-good = λ g. good-holding kind l (h .few) (h .allowed);
   status = λ w v e. let s : v ≡ statusOctets (holding kind l .kind) (holding kind l .count) = cc in s ∙ rw (held-holding kind l, count-holding kind l);
 }
 
 safe-performed : (f : Filter) (m : List ℕ) (q : Request) → isGood f ≡ true → Safe f (performed f m q)
-safe-performed f m (Q.SetType kind) g = safe-reporting f kind [] (record { few = omega arith; none = refl })
+safe-performed f m (Q.SetType kind) g = safe-reporting f kind [] (record { few = omega arith; allowed = refl })
 safe-performed f m (Q.Change c) g = safe-reporting f (f .kind) _ (fine-all c (held f) (addresses (drop 1 m)) (fine-held f g))
 safe-performed f m (Q.Refused r) g = safe-refusing f r
 
@@ -139,8 +139,8 @@ additions f a g = record {
 
 pub removals : Removals
 removals f a g = record {
-  others = one-removed f a g ∙ others-left (held f) a (fine-held f g .none);
-  around = λ x e y s q. one-removed f a g ∙ around-left (held f) a (fine-held f g .none) x e y s q;
+  others = one-removed f a g ∙ others-left (held f) a (fine-held f g .allowed);
+  around = λ x e y s q. one-removed f a g ∙ around-left (held f) a (fine-held f g .allowed) x e y s q;
 }
 
 -- ---- the pass decision
@@ -158,7 +158,7 @@ unfolding passing
 all-passing f d g = record {
   accept = λ k.
       cases (eqb d 0)
-      (λ z. rw (g, z, eqb-true d 0 z, off-zero (held f) (fine-held f g .none)))
+      (λ z. rw (g, z, eqb-true d 0 z, off-zero (held f) (fine-held f g .allowed)))
       (λ z. rw (g, z, k) (accepts (find (held f) d) ∙ rw (on-found (held f) d 0)));
   reject = λ k.
       cases (eqb d 0)
@@ -200,7 +200,7 @@ module _ (f : Filter) (s : ℕ) (g : isGood f ≡ true) (u : isUnicast s ≡ tru
 
   passes-reject : f .kind ≡ RejectList → passTold (passing (learned f s .filter) s) ≡ decision true
   passes-reject k =
-      let off : isOn (held (learned f s .filter)) s ≡ false = rw (after-held, k) (off-after (held f) s (fine-held f g .none)) in
+      let off : isOn (held (learned f s .filter)) s ≡ false = rw (after-held, k) (off-after (held f) s (fine-held f g .allowed)) in
       all-passing (learned f s .filter) s after-good .reject (after-kind ∙ k) ∙ rw (unicast-not-zero s u, off)
 
   skips-full : length (f .entries) ≡ 16 → f .kind ≡ AcceptList → 16 ≤ length (held f) → learned f s ≡ reporting f

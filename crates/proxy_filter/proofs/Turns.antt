@@ -43,7 +43,7 @@ module _ (f₀ : Filter) (c : Change) (m : List ℕ) where
       let fine = fine-changed c (held f) (big16 m at) (fine-held f (t .good)) in
       record {
         reached = omega arith;
-        good = good-holding (f .kind) l (fine .few) (fine .none);
+        good = good-holding (f .kind) l (fine .few) (fine .allowed);
         long = long-holding (f .kind) l (fine .few);
         kind = kind-holding (f .kind) l ∙ t .kind;
         same = rw (held-holding (f .kind) l) (sym (rw (addresses-here m at h)) ∙ t .same);

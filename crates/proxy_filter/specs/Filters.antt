@@ -46,9 +46,9 @@ find l a = findFrom 0 l a
 -- ---- "a filter of over 16 addresses, with a repeat or 0x0000, or not 0 past its count" is bad
 
 -- no repeat and no 0x0000
-abbrev pub noneBad : List Entry → Bool
-noneBad [] = true
-noneBad (e ∷ l) = (not (eqb (e .address) 0) && not (isOn l (e .address))) && noneBad l
+abbrev pub allAllowed : List Entry → Bool
+allAllowed [] = true
+allAllowed (e ∷ l) = (not (eqb (e .address) 0) && not (isOn l (e .address))) && allAllowed l
 
 -- 0 everywhere
 abbrev pub allUnused : List Entry → Bool
@@ -57,4 +57,4 @@ allUnused (e ∷ l) = eqb (e .address) 0 && allUnused l
 
 -- A FILTER THAT ISN'T BAD
 unfoldable pub isGood : Filter → Bool
-isGood f = leb (f .count) 16 && (noneBad (held f) && allUnused (past f))
+isGood f = leb (f .count) 16 && (allAllowed (held f) && allUnused (past f))

@@ -7,7 +7,7 @@ ghost use mathlib.Core.List.{_++_, _∷_, []};
 ghost use Prim.Native.Nat.{suc, _≤_, _<_};
 ghost use lib.Dec.{eqb};
 ghost use lib.ListN.{length, take, drop};
-ghost use Rattle.proxy_filter.specs.Filters.{held, past, unused, holding, findFrom, isOn, noneBad, allUnused, isGood};
+ghost use Rattle.proxy_filter.specs.Filters.{held, past, unused, holding, findFrom, isOn, allAllowed, allUnused, isGood};
 ghost use Rattle.proxy_filter.specs.Calls.{new, appended, without, changed, changedAll, addresses, changeFor, isUnicast, statusOctets, reporting, refusing, requestOf, typeOf, changeOf, controlled, learned, passing, passAnswer};
 
 pub enum FilterType {
@@ -198,6 +198,7 @@ impl Filter {
         }
     }
 
+    // The filter of a new connection: an empty accept list.
     pub fn new() -> Self
         ensures { λ r. ⌜ r ≡ new ⌝ }
     {
@@ -238,9 +239,9 @@ impl Filter {
     }
 
     // Whether no address held is 0x0000 or repeated.
-    fn none_bad(self) -> bool
+    fn all_allowed(self) -> bool
         requires { ⌜ self .count ≤ 16 ⌝ }
-        ensures { λ r. ⌜ r ≡ noneBad (held self) ⌝ }
+        ensures { λ r. ⌜ r ≡ allAllowed (held self) ⌝ }
     {
         let entries = self.entries;
         let count = self.count as usize;
@@ -280,7 +281,7 @@ impl Filter {
         ensures { λ r. ⌜ r ≡ isGood self ⌝ }
     {
         if self.count <= 16 {
-            if self.none_bad() {
+            if self.all_allowed() {
                 self.past_unused()
             } else {
                 false
