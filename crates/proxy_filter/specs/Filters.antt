@@ -10,7 +10,7 @@ use Rattle.proxy_filter.specs.declared.Filter.{Filter}
 use Rattle.proxy_filter.specs.declared.Place.{Place}
 use Rattle.proxy_filter.specs.declared.Place.the-variants.{At, Nowhere}
 
--- the entry of an address asked for
+-- the entry of an address
 abbrev pub entry : ℕ → Entry
 entry a = record { address = a }
 
@@ -26,7 +26,7 @@ held f = take (f .count) (f .entries)
 abbrev pub past : Filter → List Entry
 past f = drop (f .count) (f .entries)
 
--- the filter of a type that holds a list of at most 16 addresses
+-- the filter of a type that holds a list of at most 16 addresses; its other places are not in use
 unfoldable pub holding : FilterType → List Entry → Filter
 holding kind l = record { kind = kind; count = length l; entries = l ++ replicate (16 - length l) unused }
 
