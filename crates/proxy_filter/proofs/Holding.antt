@@ -26,10 +26,6 @@ replicate-unused : (n : ℕ) → allUnused (replicate n unused) ≡ true
 replicate-unused zero = refl
 replicate-unused (suc n) = replicate-unused n
 
-pub length-without : (l : List Entry) (at : ℕ) → at < length l → length (without l at) ≡ length l - 1
-length-without l at h =
-    omega (arith, length-append (take at l) (drop (suc at) l), length-take-le at l (omega arith), length-drop (suc at) l)
-
 -- ---- the filter that holds a list
 
 pub held-holding : (kind : FilterType) (l : List Entry) → held (holding kind l) ≡ l
@@ -118,25 +114,29 @@ module _ (f : Filter) (long : length (f .entries) ≡ 16) (good : isGood f ≡ t
       → _≡_ {A = Filter} (record { kind = f .kind; count = f .count - 1; entries = take at (f .entries) ++ drop (suc at) (f .entries) ++ (unused ∷ []) })
       (holding (f .kind) (without (held f) at))
   unfolding holding
-  taken-out at h = λ i. record { kind = f .kind; count = sym n i; entries = closed i }
+  taken-out at h = λ i. record { kind = f .kind; count = sym n i; entries = (closed ∙ ap (λ (m : ℕ). without (held f) at ++ replicate m unused) left) i }
     where
-      n : length (without (held f) at) ≡ f .count - 1
-      n = omega (arith, length-without (held f) at (omega (arith, held-length)), held-length)
-
-      c : f .count ≤ 16
-      c = good-count f good
-
       z : List Entry
       z = replicate (16 - f .count) unused
 
-      closed : take at (f .entries) ++ drop (suc at) (f .entries) ++ (unused ∷ []) ≡ without (held f) at ++ replicate (16 - length (without (held f) at)) unused
+      last : z ++ (unused ∷ []) ≡ replicate (16 - f .count + 1) unused
+      last = replicate-append-replicate (16 - f .count) 1 unused
+
+      closed : take at (f .entries) ++ drop (suc at) (f .entries) ++ (unused ∷ []) ≡ without (held f) at ++ replicate (16 - f .count + 1) unused
       closed =
           ap (λ (l : List Entry). take at l ++ drop (suc at) l ++ (unused ∷ [])) entries-are
           ∙ rw (take-append-le at (held f) z (omega (arith, held-length)), drop-append-le (suc at) (held f) z (omega (arith, held-length)))
           (simp append-assoc (ap (λ (l : List Entry). take at (held f) ++ (drop (suc at) (held f) ++ l)) last))
-        where
-          left : 16 - f .count + 1 ≡ 16 - length (without (held f) at)
-          left = omega (arith, n, c)
 
-          last : z ++ (unused ∷ []) ≡ replicate (16 - length (without (held f) at)) unused
-          last = replicate-append-replicate (16 - f .count) 1 unused ∙ ap (λ (m : ℕ). replicate m unused) left
+      n : length (without (held f) at) ≡ f .count - 1
+      n =
+          omega (
+            arith,
+            length-append (take at (held f)) (drop (suc at) (held f)),
+            length-take-le at (held f) (omega (arith, held-length)),
+            length-drop (suc at) (held f),
+            held-length,
+          )
+
+      left : 16 - f .count + 1 ≡ 16 - length (without (held f) at)
+      left = omega (arith, n, good-count f good)
