@@ -1,15 +1,15 @@
 -- A filter that isn't bad is the one that holds its list, and so are the filters that come of adding and removing.
 use Prim.Native.Nat.{ℕ, zero, suc, _+_, _-_, _<_, _≤_}
 use native.Mathlib.Omega.{arith}
-use mathlib.Core.Bool.{true, _&&_, and-eq-true-iff}
+use mathlib.Core.Bool.{true, and-eq-true-iff}
 use mathlib.Core.List.{List, [], _∷_, _++_, append-assoc}
 use mathlib.Core.Path.{_≡_, refl, sym, ap, _∙_}
-use lib.Dec.{leb, eqb}
+use lib.Dec.{leb}
 use lib.ListN.{length, take, drop, set, replicate, length-append, length-drop, take-append-drop, length-replicate, replicate-append-replicate}
 use lib.Seq.{take-append-le, drop-append-le, take-at, drop-at, set-at, length-take-le, append-snoc}
 use borrow.Author.Tests.{le-leb, lt-leb, leb-true, eqb-true}
 use Rattle.octets.proofs.Tests.{both-hold}
-use Rattle.proxy_filter.specs.Filters.{entry, unused, held, past, holding, noneBad, allUnused, isGood}
+use Rattle.proxy_filter.specs.Filters.{entry, unused, held, past, holding, allAllowed, allUnused, isGood}
 use Rattle.proxy_filter.specs.Calls.{appended, without}
 use Rattle.proxy_filter.specs.declared.FilterType.{FilterType}
 use Rattle.proxy_filter.specs.declared.Entry.{Entry}
@@ -25,10 +25,6 @@ unused-replicate (e ∷ l) h =
 replicate-unused : (n : ℕ) → allUnused (replicate n unused) ≡ true
 replicate-unused zero = refl
 replicate-unused (suc n) = replicate-unused n
-
-pub length-without : (l : List Entry) (at : ℕ) → at < length l → length (without l at) ≡ length l - 1
-length-without l at h =
-    omega (arith, length-append (take at l) (drop (suc at) l), length-take-le at l (omega arith), length-drop (suc at) l)
 
 -- ---- the filter that holds a list
 
@@ -48,7 +44,7 @@ pub long-holding : (kind : FilterType) (l : List Entry) → length l ≤ 16 → 
 unfolding holding
 long-holding kind l h = omega (arith, length-append l (replicate (16 - length l) unused), length-replicate (16 - length l) unused)
 
-pub good-holding : (kind : FilterType) (l : List Entry) → length l ≤ 16 → noneBad l ≡ true → isGood (holding kind l) ≡ true
+pub good-holding : (kind : FilterType) (l : List Entry) → length l ≤ 16 → allAllowed l ≡ true → isGood (holding kind l) ≡ true
 unfolding isGood holding
 good-holding kind l n h =
     let z = replicate (16 - length l) unused in
@@ -56,14 +52,14 @@ good-holding kind l n h =
 
 -- ---- a filter that isn't bad
 
-good-parts : (f : Filter) → isGood f ≡ true → (leb (f .count) 16 ≡ true) × ((noneBad (held f) ≡ true) × (allUnused (past f) ≡ true))
+good-parts : (f : Filter) → isGood f ≡ true → (leb (f .count) 16 ≡ true) × ((allAllowed (held f) ≡ true) × (allUnused (past f) ≡ true))
 unfolding isGood
-good-parts f h = let b = and-eq-true-iff (leb (f .count) 16) _ .0 h in (b .0, and-eq-true-iff (noneBad (held f)) _ .0 (b .1))
+good-parts f h = let b = and-eq-true-iff (leb (f .count) 16) _ .0 h in (b .0, and-eq-true-iff (allAllowed (held f)) _ .0 (b .1))
 
 pub good-count : (f : Filter) → isGood f ≡ true → f .count ≤ 16
 good-count f h = leb-true (f .count) 16 (good-parts f h .0)
 
-pub good-held : (f : Filter) → isGood f ≡ true → noneBad (held f) ≡ true
+pub good-held : (f : Filter) → isGood f ≡ true → allAllowed (held f) ≡ true
 good-held f h = good-parts f h .1 .0
 
 module _ (f : Filter) (long : length (f .entries) ≡ 16) (good : isGood f ≡ true) where
@@ -118,25 +114,29 @@ module _ (f : Filter) (long : length (f .entries) ≡ 16) (good : isGood f ≡ t
       → _≡_ {A = Filter} (record { kind = f .kind; count = f .count - 1; entries = take at (f .entries) ++ drop (suc at) (f .entries) ++ (unused ∷ []) })
       (holding (f .kind) (without (held f) at))
   unfolding holding
-  taken-out at h = λ i. record { kind = f .kind; count = sym n i; entries = closed i }
+  taken-out at h = λ i. record { kind = f .kind; count = sym n i; entries = (closed ∙ ap (λ (m : ℕ). without (held f) at ++ replicate m unused) left) i }
     where
-      n : length (without (held f) at) ≡ f .count - 1
-      n = omega (arith, length-without (held f) at (omega (arith, held-length)), held-length)
-
-      c : f .count ≤ 16
-      c = good-count f good
-
       z : List Entry
       z = replicate (16 - f .count) unused
 
-      closed : take at (f .entries) ++ drop (suc at) (f .entries) ++ (unused ∷ []) ≡ without (held f) at ++ replicate (16 - length (without (held f) at)) unused
+      last : z ++ (unused ∷ []) ≡ replicate (16 - f .count + 1) unused
+      last = replicate-append-replicate (16 - f .count) 1 unused
+
+      closed : take at (f .entries) ++ drop (suc at) (f .entries) ++ (unused ∷ []) ≡ without (held f) at ++ replicate (16 - f .count + 1) unused
       closed =
           ap (λ (l : List Entry). take at l ++ drop (suc at) l ++ (unused ∷ [])) entries-are
           ∙ rw (take-append-le at (held f) z (omega (arith, held-length)), drop-append-le (suc at) (held f) z (omega (arith, held-length)))
           (simp append-assoc (ap (λ (l : List Entry). take at (held f) ++ (drop (suc at) (held f) ++ l)) last))
-        where
-          left : 16 - f .count + 1 ≡ 16 - length (without (held f) at)
-          left = omega (arith, n, c)
 
-          last : z ++ (unused ∷ []) ≡ replicate (16 - length (without (held f) at)) unused
-          last = replicate-append-replicate (16 - f .count) 1 unused ∙ ap (λ (m : ℕ). replicate m unused) left
+      n : length (without (held f) at) ≡ f .count - 1
+      n =
+          omega (
+            arith,
+            length-append (take at (held f)) (drop (suc at) (held f)),
+            length-take-le at (held f) (omega (arith, held-length)),
+            length-drop (suc at) (held f),
+            held-length,
+          )
+
+      left : 16 - f .count + 1 ≡ 16 - length (without (held f) at)
+      left = omega (arith, n, good-count f good)

@@ -3,3 +3,4 @@ mod Places
 mod Holding
 mod Lists
 mod Turns
+pub mod Promises

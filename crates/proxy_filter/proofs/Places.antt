@@ -1,12 +1,11 @@
 -- Places of the entries: one taken out, and those after it moved down by one.
-use Prim.Native.Nat.{ℕ, zero, suc, _+_, _-_, _<_, _≤_}
-use native.Mathlib.Nat.{suc-add}
+use Prim.Native.Nat.{ℕ, suc, _+_, _-_, _<_}
 use native.Mathlib.Numerals.{add-one}
 use native.Mathlib.Omega.{arith}
 use mathlib.Core.List.{List, [], _∷_, _++_, map}
-use mathlib.Core.Path.{_≡_, refl, sym, ap, _∙_}
+use mathlib.Core.Path.{_≡_, sym, _∙_}
 use lib.ListN.{length, length-map, take, drop, set, getD, length-append, length-drop, drop-of-length-le}
-use lib.Seq.{paste, paste-suc, getD-drop, drop-cons, set-at, length-paste-head, take-all, length-take-le}
+use lib.Seq.{paste, paste-suc, getD-drop, drop-cons, set-at, take-all, length-take-le}
 use Rattle.proxy_filter.specs.Filters.{unused}
 use Rattle.proxy_filter.specs.declared.Entry.{Entry}
 

@@ -1,20 +1,18 @@
 -- The loop over the addresses of a message.
-use Prim.Native.Nat.{ℕ, zero, suc, _+_, _-_, _*_, _<_, _≤_}
-use native.Mathlib.Numerals.{add-one}
+use Prim.Native.Nat.{ℕ, _+_, _-_, _<_, _≤_}
 use native.Mathlib.Omega.{arith}
 use mathlib.Core.Bool.{true}
-use mathlib.Core.List.{List, [], _∷_, _++_}
-use mathlib.Core.Path.{_≡_, refl, sym, ap, _∙_}
-use lib.ListN.{length, drop, getD, drop-of-length-le, length-drop}
-use lib.Seq.{drop-cons, drop-drop}
+use mathlib.Core.List.{List, [], _∷_}
+use mathlib.Core.Path.{_≡_, refl, sym, _∙_}
+use lib.ListN.{length, drop, length-drop}
 use Rattle.octets.specs.Numbers.{big16}
 use Rattle.octets.proofs.Loops.{left-here}
 use Rattle.proxy_filter.specs.Filters.{held, holding, isGood}
 use Rattle.proxy_filter.specs.Calls.{changed, changedAll, addresses}
 use Rattle.proxy_filter.specs.declared.Change.{Change}
 use Rattle.proxy_filter.specs.declared.Filter.{Filter}
-use Rattle.proxy_filter.proofs.Holding.{held-holding, kind-holding, long-holding, good-holding, good-count, good-held, held-length, rebuilt}
-use Rattle.proxy_filter.proofs.Lists.{Fine, fine-changed}
+use Rattle.proxy_filter.proofs.Holding.{held-holding, kind-holding, long-holding, good-holding, rebuilt}
+use Rattle.proxy_filter.proofs.Lists.{fine-held, fine-changed}
 
 -- the two octets at a place, and those after them
 addresses-here : (m : List ℕ) (at : ℕ) → at + 1 < length m → addresses (drop at m) ≡ big16 m at ∷ addresses (drop (at + 2) m)
@@ -26,10 +24,6 @@ short : (o : List ℕ) → length o ≤ 1 → addresses o ≡ []
 short [] h = refl
 short (x ∷ []) h = refl
 short (x ∷ y ∷ o) h = absurd (omega arith)
-
--- the list of a filter that isn't bad
-pub fine-held : (f : Filter) → isGood f ≡ true → length (f .entries) ≡ 16 → Fine (held f)
-fine-held f good long = record { few = omega (arith, held-length f long good, good-count f good); none = good-held f good }
 
 -- THE LOOP: the filter f after the addresses before place `at`, f₀ being the one at the start
 pub record Turn (f₀ : Filter) (c : Change) (m : List ℕ) (f : Filter) (at : ℕ) : Type 0 where
@@ -46,10 +40,10 @@ module _ (f₀ : Filter) (c : Change) (m : List ℕ) where
   pub next-turn : (f : Filter) (at : ℕ) → Turn f₀ c m f at → at + 1 < length m → Turn f₀ c m (holding (f .kind) (changed c (held f) (big16 m at))) (at + 2)
   next-turn f at t h =
       let l = changed c (held f) (big16 m at) in
-      let fine = fine-changed c (held f) (big16 m at) (fine-held f (t .good) (t .long)) in
+      let fine = fine-changed c (held f) (big16 m at) (fine-held f (t .good)) in
       record {
         reached = omega arith;
-        good = good-holding (f .kind) l (fine .few) (fine .none);
+        good = good-holding (f .kind) l (fine .few) (fine .allowed);
         long = long-holding (f .kind) l (fine .few);
         kind = kind-holding (f .kind) l ∙ t .kind;
         same = rw (held-holding (f .kind) l) (sym (rw (addresses-here m at h)) ∙ t .same);

@@ -1,6 +1,6 @@
 -- The calls on a filter, in document 01's order.
-use Prim.Native.Nat.{ℕ, zero, suc, _+_, _*_, _-_, _%_}
-use mathlib.Core.Bool.{Bool, true, false, _&&_, cond}
+use Prim.Native.Nat.{ℕ, suc, _+_, _*_, _-_, _%_}
+use mathlib.Core.Bool.{Bool, _&&_, cond}
 use mathlib.Core.List.{List, [], _∷_, _++_}
 use lib.Dec.{leb, eqb}
 use lib.ListN.{length, take, drop, getD}
@@ -42,6 +42,7 @@ changedAt Add Nowhere l a = appended l a
 changedAt Remove (At p) l a = without l p
 changedAt Remove Nowhere l a = l
 
+-- ONE ADDRESS
 unfoldable pub changed : Change → List Entry → ℕ → List Entry
 changed c l a = cond (eqb a 0) l (changedAt c (find l a) l a)
 
@@ -58,6 +59,7 @@ addresses (x ∷ y ∷ o) = (x * 256 + y) ∷ addresses o
 
 -- ---- answers
 
+-- a refusal, with the filter as it was
 abbrev pub refusing : Filter → FilterRefusal → FilterStep
 refusing f r = record { filter = f; answer = A.Refused r }
 
@@ -84,6 +86,7 @@ typeOf m =
 unfoldable pub changeOf : Change → List ℕ → Request
 changeOf c m = cond (leb (length m - 1) 32 && eqb ((length m - 1) % 2) 0) (Q.Change c) (Q.Refused R.WrongLength)
 
+-- what a message asks for, by its first octet
 unfoldable pub requestOf : List ℕ → Request
 requestOf m =
     cond (eqb (length m) 0) (Q.Refused R.Empty)
@@ -92,6 +95,7 @@ requestOf m =
     (cond (eqb (getD m 0 0) 2) (changeOf Remove m)
     (Q.Refused R.UnknownOpcode))))
 
+-- what is asked for, done: opcode 0 "sets the type .. and empties"
 abbrev pub performed : Filter → List ℕ → Request → FilterStep
 performed f m (Q.SetType kind) = reporting (holding kind [])
 performed f m (Q.Change c) = reporting (holding (f .kind) (changedAll c (held f) (addresses (drop 1 m))))
@@ -103,6 +107,7 @@ controlled f m = cond (isGood f) (performed f m (requestOf m)) (refusing f R.Bad
 
 -- ---- a source address is "added to an accept list, removed from a reject list, with the same skips"
 
+-- what is done with a source address
 abbrev pub changeFor : FilterType → Change
 changeFor AcceptList = Add
 changeFor RejectList = Remove
@@ -122,6 +127,7 @@ learned f source =
 
 -- ---- "A destination passes an accept list if it is on it, a reject list if it isn't; 0x0000 never passes"
 
+-- by the place at which the destination was found
 abbrev pub passAnswer : FilterType → Place → PassAnswer
 passAnswer AcceptList (At p) = P.Passes
 passAnswer AcceptList Nowhere = P.DoesNotPass

@@ -1,5 +1,5 @@
 -- A filter, the addresses that it holds, and the lookup on which every rule rests.
-use Prim.Native.Nat.{ℕ, zero, suc, _-_}
+use Prim.Native.Nat.{ℕ, suc, _-_}
 use mathlib.Core.Bool.{Bool, true, false, _&&_, _||_, not, cond}
 use mathlib.Core.List.{List, [], _∷_, _++_}
 use lib.Dec.{leb, eqb}
@@ -10,7 +10,7 @@ use Rattle.proxy_filter.specs.declared.Filter.{Filter}
 use Rattle.proxy_filter.specs.declared.Place.{Place}
 use Rattle.proxy_filter.specs.declared.Place.the-variants.{At, Nowhere}
 
--- the entry of an address asked for
+-- the entry of an address
 abbrev pub entry : ℕ → Entry
 entry a = record { address = a }
 
@@ -26,7 +26,7 @@ held f = take (f .count) (f .entries)
 abbrev pub past : Filter → List Entry
 past f = drop (f .count) (f .entries)
 
--- the filter of a type that holds a list of at most 16 addresses
+-- the filter of a type that holds a list of at most 16 addresses; its other places are not in use
 unfoldable pub holding : FilterType → List Entry → Filter
 holding kind l = record { kind = kind; count = length l; entries = l ++ replicate (16 - length l) unused }
 
@@ -46,9 +46,9 @@ find l a = findFrom 0 l a
 -- ---- "a filter of over 16 addresses, with a repeat or 0x0000, or not 0 past its count" is bad
 
 -- no repeat and no 0x0000
-abbrev pub noneBad : List Entry → Bool
-noneBad [] = true
-noneBad (e ∷ l) = (not (eqb (e .address) 0) && not (isOn l (e .address))) && noneBad l
+abbrev pub allAllowed : List Entry → Bool
+allAllowed [] = true
+allAllowed (e ∷ l) = (not (eqb (e .address) 0) && not (isOn l (e .address))) && allAllowed l
 
 -- 0 everywhere
 abbrev pub allUnused : List Entry → Bool
@@ -57,4 +57,4 @@ allUnused (e ∷ l) = eqb (e .address) 0 && allUnused l
 
 -- A FILTER THAT ISN'T BAD
 unfoldable pub isGood : Filter → Bool
-isGood f = leb (f .count) 16 && (noneBad (held f) && allUnused (past f))
+isGood f = leb (f .count) 16 && (allAllowed (held f) && allUnused (past f))

@@ -1,2 +1,3 @@
 pub mod Filters
 pub mod Calls
+pub mod Promises

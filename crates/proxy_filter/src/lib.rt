@@ -7,7 +7,7 @@ ghost use mathlib.Core.List.{_++_, _∷_, []};
 ghost use Prim.Native.Nat.{suc, _≤_, _<_};
 ghost use lib.Dec.{eqb};
 ghost use lib.ListN.{length, take, drop};
-ghost use Rattle.proxy_filter.specs.Filters.{held, past, unused, holding, findFrom, isOn, noneBad, allUnused, isGood};
+ghost use Rattle.proxy_filter.specs.Filters.{held, past, unused, holding, findFrom, isOn, allAllowed, allUnused, isGood};
 ghost use Rattle.proxy_filter.specs.Calls.{refusalNumber, new, appended, without, changed, changedAll, addresses, changeFor, isUnicast, statusOctets, reporting, refusing, requestOf, typeOf, changeOf, controlled, learned, passing, passAnswer};
 
 pub enum FilterType {
@@ -96,12 +96,6 @@ pub fn status_octets(kind: FilterType, count: u8) -> [u8; 4]
         FilterType::AcceptList => [3, 0, 0, count],
         FilterType::RejectList => [3, 1, 0, count],
     }
-}
-
-fn is_unused(entry: Entry) -> bool
-    ensures { λ r. ⌜ r ≡ eqb (entry .address) 0 ⌝ }
-{
-    entry.address == 0
 }
 
 // The entries with the one at a place taken out, those after it moved down by one, and the last place not in use.
@@ -198,12 +192,12 @@ fn pass_answer(kind: FilterType, place: Place) -> PassAnswer
 {
     match kind {
         FilterType::AcceptList => match place {
-            Place::At(_) => PassAnswer::Passes,
-            Place::Nowhere => PassAnswer::DoesNotPass,
+            Place::At(_) => return PassAnswer::Passes,
+            Place::Nowhere => return PassAnswer::DoesNotPass,
         },
         FilterType::RejectList => match place {
-            Place::At(_) => PassAnswer::DoesNotPass,
-            Place::Nowhere => PassAnswer::Passes,
+            Place::At(_) => return PassAnswer::DoesNotPass,
+            Place::Nowhere => return PassAnswer::Passes,
         },
     }
 }
@@ -220,6 +214,7 @@ impl Filter {
         }
     }
 
+    // The filter of a new connection: an empty accept list.
     pub fn new() -> Self
         ensures { λ r. ⌜ r ≡ new ⌝ }
     {
@@ -260,9 +255,9 @@ impl Filter {
     }
 
     // Whether no address held is 0x0000 or repeated.
-    fn none_bad(self) -> bool
+    fn all_allowed(self) -> bool
         requires { ⌜ self .count ≤ 16 ⌝ }
-        ensures { λ r. ⌜ r ≡ noneBad (held self) ⌝ }
+        ensures { λ r. ⌜ r ≡ allAllowed (held self) ⌝ }
     {
         let entries = self.entries;
         let count = self.count as usize;
@@ -288,7 +283,7 @@ impl Filter {
         let mut i = count;
         while i < 16 {
             let entry = entries[i];
-            if is_unused(entry) {
+            if entry.address == 0 {
                 i += 1;
             } else {
                 return false;
@@ -302,7 +297,7 @@ impl Filter {
         ensures { λ r. ⌜ r ≡ isGood self ⌝ }
     {
         if self.count <= 16 {
-            if self.none_bad() {
+            if self.all_allowed() {
                 self.past_unused()
             } else {
                 false
@@ -349,12 +344,12 @@ impl Filter {
         let place = self.find_from(0, address);
         match change {
             Change::Add => match place {
-                Place::At(_) => self,
-                Place::Nowhere => self.append(address),
+                Place::At(_) => return self,
+                Place::Nowhere => return self.append(address),
             },
             Change::Remove => match place {
-                Place::At(at) => self.remove_at(at),
-                Place::Nowhere => self,
+                Place::At(at) => return self.remove_at(at),
+                Place::Nowhere => return self,
             },
         }
     }
@@ -406,17 +401,18 @@ impl Filter {
             match request {
                 Request::SetType(kind) => {
                     self = Filter::empty(kind);
-                    self.report()
+                    return self.report();
                 }
                 Request::Change(change) => {
                     self = self.change_all(change, message);
-                    self.report()
+                    return self.report();
                 }
-                Request::Refused(refusal) => self.refuse(refusal),
+                Request::Refused(refusal) => {
+                    return self.refuse(refusal);
+                }
             }
-        } else {
-            self.refuse(FilterRefusal::BadState)
         }
+        self.refuse(FilterRefusal::BadState)
     }
 
     // The source address of a network message heard from the proxy client.
@@ -427,13 +423,11 @@ impl Filter {
             if is_unicast(source) {
                 let kind = self.kind;
                 self = self.change_one(change_for(kind), source);
-                self.report()
-            } else {
-                self.refuse(FilterRefusal::NotUnicast)
+                return self.report();
             }
-        } else {
-            self.refuse(FilterRefusal::BadState)
+            return self.refuse(FilterRefusal::NotUnicast);
         }
+        self.refuse(FilterRefusal::BadState)
     }
 
     // Whether a network message with a destination address is passed on to the proxy client.

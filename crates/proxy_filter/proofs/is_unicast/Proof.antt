@@ -1,5 +1,4 @@
 use Rattle.octets.proofs.Tests.{tests}
-use borrow.Author.Needs.{needs}
 use Rattle.proxy_filter.proofs.is_unicast.Statement.{statement}
 use Rattle.proxy_filter.proofs.is_unicast.Tie as tie
 

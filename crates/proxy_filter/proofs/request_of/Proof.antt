@@ -3,9 +3,6 @@ use Rattle.proxy_filter.specs.Calls.{requestOf}
 use borrow.Author.Needs.{needs}
 use Rattle.proxy_filter.proofs.request_of.Statement.{statement}
 use Rattle.proxy_filter.proofs.request_of.Tie as tie
-use Rattle.octets.proofs.octet_at.Reads as octet-at-reads
-use Rattle.proxy_filter.proofs.change_of.Reads as change-of-reads
-use Rattle.proxy_filter.proofs.type_of.Reads as type-of-reads
 
 returns : tie.Need-returns
 unfolding requestOf

@@ -3,7 +3,6 @@ use Rattle.proxy_filter.specs.Calls.{typeOf}
 use borrow.Author.Needs.{needs}
 use Rattle.proxy_filter.proofs.type_of.Statement.{statement}
 use Rattle.proxy_filter.proofs.type_of.Tie as tie
-use Rattle.octets.proofs.octet_at.Reads as octet-at-reads
 
 sub-if1 : tie.Need-sub-if1
 sub-if1 c = search needs

@@ -28,11 +28,36 @@ enum-told c = search needs
 enum-told-2 : tie.Need-enum-told-2
 enum-told-2 c = search needs
 
+returns-2 : tie.Need-returns-2
+unfolding changed
+returns-2 c =
+    let a = c .before .before .before .before .before .before .args in
+    let f = a .self in
+    let n : length (f .entries) ≡ 16 = search (needs, length-mapped) in
+    simp (
+      ne-eqb _ _ (c .before .before .before .before .before .if1 .left),
+      ← (c .before .before .before .before .find-from .ensures),
+      c .before .before .enum-told .given .1,
+      c .enum-told2 .given .1,
+    ) (rebuilt f n (c .before .before .before .before .before .before .pre))
+
 enum-told-3 : tie.Need-enum-told-3
 enum-told-3 c = search needs
 
 append-requires : tie.Need-append-requires
 append-requires c κs = search needs
+
+returns-3 : tie.Need-returns-3
+unfolding changed
+returns-3 c =
+    let a = c .before .before .before .before .before .before .before .args in
+    let f = a .self in
+    simp (
+      ne-eqb _ _ (c .before .before .before .before .before .before .if1 .left),
+      ← (c .before .before .before .before .before .find-from .ensures),
+      c .before .before .before .enum-told .given .1,
+      c .before .enum-told3 .given .1,
+    ) (c .append .ensures)
 
 enum-told-4 : tie.Need-enum-told-4
 enum-told-4 c = search needs
@@ -48,34 +73,6 @@ remove-at-requires c κs =
     let found = sym (c .before .before .before .before .before .find-from .ensures) ∙ c .before .place .given .1 in
     (good, omega (arith, found-below (held (a .self)) (a .address) _ found, held-length (a .self) n good))
 
-enum-told-5 : tie.Need-enum-told-5
-enum-told-5 c = search needs
-
-returns-2 : tie.Need-returns-2
-unfolding changed
-returns-2 c =
-    let a = c .before .before .before .before .before .before .args in
-    let f = a .self in
-    let n : length (f .entries) ≡ 16 = search (needs, length-mapped) in
-    simp (
-      ne-eqb _ _ (c .before .before .before .before .before .if1 .left),
-      ← (c .before .before .before .before .find-from .ensures),
-      c .before .before .enum-told .given .1,
-      c .enum-told2 .given .1,
-    ) (rebuilt f n (c .before .before .before .before .before .before .pre))
-
-returns-3 : tie.Need-returns-3
-unfolding changed
-returns-3 c =
-    let a = c .before .before .before .before .before .before .before .args in
-    let f = a .self in
-    simp (
-      ne-eqb _ _ (c .before .before .before .before .before .before .if1 .left),
-      ← (c .before .before .before .before .before .find-from .ensures),
-      c .before .before .before .enum-told .given .1,
-      c .before .enum-told3 .given .1,
-    ) (c .append .ensures)
-
 returns-4 : tie.Need-returns-4
 unfolding changed
 returns-4 c =
@@ -87,6 +84,9 @@ returns-4 c =
       c .before .before .before .before .enum-told4 .given .1,
       c .before .before .place .given .1,
     ) (c .remove-at .ensures)
+
+enum-told-5 : tie.Need-enum-told-5
+enum-told-5 c = search needs
 
 returns-5 : tie.Need-returns-5
 unfolding changed
@@ -109,13 +109,13 @@ change-one-spec =
     find-from-requires
     enum-told
     enum-told-2
+    returns-2
     enum-told-3
     append-requires
+    returns-3
     enum-told-4
     enum-known-place
     remove-at-requires
-    enum-told-5
-    returns-2
-    returns-3
     returns-4
+    enum-told-5
     returns-5)

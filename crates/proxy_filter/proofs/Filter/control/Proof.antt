@@ -19,24 +19,6 @@ empty-requires c κs = search needs
 report-requires : tie.Need-report-requires
 report-requires c κs = search needs
 
-enum-known-request-2 : tie.Need-enum-known-request-2
-enum-known-request-2 c = search needs
-
-change-all-requires : tie.Need-change-all-requires
-change-all-requires c κs = sym (c .before .before .before .before .before .is-good .ensures) ∙ c .before .before .before .before .if1 .taken
-
-report-requires-2 : tie.Need-report-requires-2
-report-requires-2 c κs = search needs
-
-enum-known-request-3 : tie.Need-enum-known-request-3
-enum-known-request-3 c = search needs
-
-refuse-requires : tie.Need-refuse-requires
-refuse-requires c κs = search needs
-
-refuse-requires-2 : tie.Need-refuse-requires-2
-refuse-requires-2 c κs = search needs
-
 returns : tie.Need-returns
 unfolding controlled
 returns c =
@@ -48,6 +30,15 @@ returns c =
       c .report .ensures,
       c .before .empty .ensures,
     )
+
+enum-known-request-2 : tie.Need-enum-known-request-2
+enum-known-request-2 c = search needs
+
+change-all-requires : tie.Need-change-all-requires
+change-all-requires c κs = sym (c .before .before .before .before .before .is-good .ensures) ∙ c .before .before .before .before .if1 .taken
+
+report-requires-2 : tie.Need-report-requires-2
+report-requires-2 c κs = search needs
 
 returns-2 : tie.Need-returns-2
 unfolding controlled
@@ -61,6 +52,12 @@ returns-2 c =
       c .before .change-all .ensures,
     )
 
+enum-known-request-3 : tie.Need-enum-known-request-3
+enum-known-request-3 c = search needs
+
+refuse-requires : tie.Need-refuse-requires
+refuse-requires c κs = search needs
+
 returns-3 : tie.Need-returns-3
 unfolding controlled
 returns-3 c =
@@ -71,6 +68,9 @@ returns-3 c =
       c .before .before .request3 .given .1,
       c .refuse .ensures,
     )
+
+refuse-requires-2 : tie.Need-refuse-requires-2
+refuse-requires-2 c κs = search needs
 
 returns-4 : tie.Need-returns-4
 unfolding controlled
@@ -85,13 +85,13 @@ control-spec =
     enum-known-request
     empty-requires
     report-requires
+    returns
     enum-known-request-2
     change-all-requires
     report-requires-2
+    returns-2
     enum-known-request-3
     refuse-requires
-    refuse-requires-2
-    returns
-    returns-2
     returns-3
+    refuse-requires-2
     returns-4)

@@ -1,5 +1,5 @@
 -- One turn of the loop takes one entry off the list that is left: `finds`, `looks-on`, `nothing-left`.
-use Prim.Native.Nat.{_-_, _≤_}
+use Prim.Native.Nat.{_-_}
 use borrow.Author.Needs.{needs}
 use borrow.Author.Tests.{eq-eqb, ne-eqb}
 use lib.ListN.{length, take, drop}

@@ -4,19 +4,19 @@ use Rattle.proxy_filter.specs.Filters.{isGood}
 use Rattle.proxy_filter.proofs.Filter.is_good.Statement.{statement}
 use Rattle.proxy_filter.proofs.Filter.is_good.Tie as tie
 
-none-bad-requires : tie.Need-none-bad-requires
-none-bad-requires c κs = search needs
+all-allowed-requires : tie.Need-all-allowed-requires
+all-allowed-requires c κs = search needs
 
 past-unused-requires : tie.Need-past-unused-requires
 past-unused-requires c κs = search needs
 
 returns : tie.Need-returns
 unfolding isGood
-returns c = simp (le-leb _ _ (c .before .before .before .if1 .taken), ← (c .before .before .none-bad .ensures), c .before .if2 .taken, c .past-unused .ensures)
+returns c = simp (le-leb _ _ (c .before .before .before .if1 .taken), ← (c .before .before .all-allowed .ensures), c .before .if2 .taken, c .past-unused .ensures)
 
 returns-2 : tie.Need-returns-2
 unfolding isGood
-returns-2 c = simp (le-leb _ _ (c .before .before .if1 .taken), ← (c .before .none-bad .ensures), c .if2 .left)
+returns-2 c = simp (le-leb _ _ (c .before .before .if1 .taken), ← (c .before .all-allowed .ensures), c .if2 .left)
 
 returns-3 : tie.Need-returns-3
 unfolding isGood
@@ -24,4 +24,4 @@ returns-3 c = simp (lt-leb _ _ (c .if1 .left))
 
 pub is-good-spec : {M : Type 1} → statement M
 is-good-spec =
-    tie.close (tie.spec none-bad-requires past-unused-requires returns returns-2 returns-3)
+    tie.close (tie.spec all-allowed-requires past-unused-requires returns returns-2 returns-3)

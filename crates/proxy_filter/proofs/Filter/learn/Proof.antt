@@ -19,12 +19,6 @@ change-one-requires c κs = sym (c .before .before .before .before .is-good .ens
 report-requires : tie.Need-report-requires
 report-requires c κs = search needs
 
-refuse-requires : tie.Need-refuse-requires
-refuse-requires c κs = search needs
-
-refuse-requires-2 : tie.Need-refuse-requires-2
-refuse-requires-2 c κs = search needs
-
 returns : tie.Need-returns
 unfolding learned
 returns c =
@@ -38,6 +32,9 @@ returns c =
       c .before .before .change-for .ensures,
     )
 
+refuse-requires : tie.Need-refuse-requires
+refuse-requires c κs = search needs
+
 returns-2 : tie.Need-returns-2
 unfolding learned
 returns-2 c =
@@ -48,6 +45,9 @@ returns-2 c =
       c .before .if2 .left,
       c .refuse .ensures,
     )
+
+refuse-requires-2 : tie.Need-refuse-requires-2
+refuse-requires-2 c κs = search needs
 
 returns-3 : tie.Need-returns-3
 unfolding learned
@@ -62,8 +62,8 @@ learn-spec =
     change-for-requires
     change-one-requires
     report-requires
-    refuse-requires
-    refuse-requires-2
     returns
+    refuse-requires
     returns-2
+    refuse-requires-2
     returns-3)

@@ -1,10 +1,11 @@
 -- One turn of the loop takes one entry off the list that is left: `goes-on`, `stops`, `nothing-left`.
 use Prim.Native.Nat.{_-_}
 use borrow.Author.Needs.{needs}
+use borrow.Author.Tests.{eq-eqb, ne-eqb}
+use lib.Dec.{eqb}
 use lib.ListN.{length, drop}
 use mathlib.Core.Path.{_≡_, refl}
 use native.Mathlib.Omega.{arith}
-use lib.Dec.{eqb}
 use Rattle.octets.proofs.Loops.{goes-on, stops, nothing-left}
 use Rattle.proxy_filter.proofs.Places.{length-mapped}
 use Rattle.proxy_filter.specs.Filters.{unused, allUnused}
@@ -33,9 +34,6 @@ mul-entry c = search needs
 array-copy-out-entry : tie.Need-array-copy-out-entry Inv-loop μ-loop
 array-copy-out-entry c = search needs
 
-is-unused-requires : tie.Need-is-unused-requires Inv-loop μ-loop
-is-unused-requires c κs = search needs
-
 add-i : tie.Need-add-i Inv-loop μ-loop
 add-i c = search needs
 
@@ -47,14 +45,14 @@ loop-again c =
     let s = c .before .before .before .before in
     let f = s .before .before .before .args .self in (
       s .loop .inv .0,
-      goes-on allUnused (λ e l. eqb (e .address) 0) (λ e l. refl) (f .entries) (s .loop .i) unused (s .loop .inv .1) (omega arith) (c .before .is-unused .ensures) (c .if1 .taken),
+      goes-on allUnused (λ e l. eqb (e .address) 0) (λ e l. refl) (f .entries) (s .loop .i) unused (s .loop .inv .1) (omega arith) refl (eq-eqb _ _ (c .if1 .taken)),
     )
 
 returns : tie.Need-returns Inv-loop μ-loop
 returns c =
     let s = c .before .before .before .before in
     let f = s .before .before .before .args .self in
-    stops allUnused (λ e l. eqb (e .address) 0) (λ e l. refl) (f .entries) (s .loop .i) unused (s .loop .inv .1) (omega arith) (c .before .is-unused .ensures) (c .if1 .left)
+    stops allUnused (λ e l. eqb (e .address) 0) (λ e l. refl) (f .entries) (s .loop .i) unused (s .loop .inv .1) (omega arith) refl (ne-eqb _ _ (c .if1 .left))
 
 returns-2 : tie.Need-returns-2 Inv-loop μ-loop
 returns-2 c = nothing-left allUnused (c .before .before .before .before .args .self .entries) (c .before .loop .i) (c .before .loop .inv .1) (omega arith)
@@ -69,7 +67,6 @@ past-unused-spec =
     loop-holds
     mul-entry
     array-copy-out-entry
-    is-unused-requires
     add-i
     loop-less
     loop-again

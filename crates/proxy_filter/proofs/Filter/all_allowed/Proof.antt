@@ -9,13 +9,13 @@ use native.Mathlib.Omega.{arith}
 use lib.Dec.{eqb}
 use Rattle.octets.proofs.Loops.{goes-on, stops, nothing-left}
 use Rattle.proxy_filter.proofs.Places.{length-mapped}
-use Rattle.proxy_filter.specs.Filters.{unused, held, isOn, noneBad}
-use Rattle.proxy_filter.proofs.Filter.none_bad.Statement.{statement}
-use Rattle.proxy_filter.proofs.Filter.none_bad.Tie as tie
+use Rattle.proxy_filter.specs.Filters.{unused, held, isOn, allAllowed}
+use Rattle.proxy_filter.proofs.Filter.all_allowed.Statement.{statement}
+use Rattle.proxy_filter.proofs.Filter.all_allowed.Tie as tie
 
 abbrev Inv-loop : tie.InvT-loop
 Inv-loop self entries count i₀ i =
-    (length (held self) ≡ self .count) × (noneBad (drop i (held self)) ≡ noneBad (held self))
+    (length (held self) ≡ self .count) × (allAllowed (drop i (held self)) ≡ allAllowed (held self))
 
 abbrev μ-loop : tie.MeasureT-loop
 μ-loop self entries count i₀ i = count - i
@@ -52,7 +52,7 @@ loop-again c =
     let s = c .before .before .before .before in
     let f = s .before .before .before .args .self in (
       s .loop .inv .0,
-      goes-on noneBad (λ e l. not (eqb (e .address) 0) && not (isOn l (e .address))) (λ e l. refl) (held f) (s .loop .i) unused (s .loop .inv .1) (omega arith)
+      goes-on allAllowed (λ e l. not (eqb (e .address) 0) && not (isOn l (e .address))) (λ e l. refl) (held f) (s .loop .i) unused (s .loop .inv .1) (omega arith)
           (rw (getD-take (f .count) (f .entries) (s .loop .i) unused (omega arith)) (c .before .is-allowed .ensures)) (c .if1 .taken),
     )
 
@@ -60,14 +60,14 @@ returns : tie.Need-returns Inv-loop μ-loop
 returns c =
     let s = c .before .before .before .before in
     let f = s .before .before .before .args .self in
-    stops noneBad (λ e l. not (eqb (e .address) 0) && not (isOn l (e .address))) (λ e l. refl) (held f) (s .loop .i) unused (s .loop .inv .1) (omega arith)
+    stops allAllowed (λ e l. not (eqb (e .address) 0) && not (isOn l (e .address))) (λ e l. refl) (held f) (s .loop .i) unused (s .loop .inv .1) (omega arith)
     (rw (getD-take (f .count) (f .entries) (s .loop .i) unused (omega arith)) (c .before .is-allowed .ensures)) (c .if1 .left)
 
 returns-2 : tie.Need-returns-2 Inv-loop μ-loop
-returns-2 c = nothing-left noneBad (held (c .before .before .before .before .args .self)) (c .before .loop .i) (c .before .loop .inv .1) (omega arith)
+returns-2 c = nothing-left allAllowed (held (c .before .before .before .before .args .self)) (c .before .loop .i) (c .before .loop .inv .1) (omega arith)
 
-pub none-bad-spec : {M : Type 1} → statement M
-none-bad-spec =
+pub all-allowed-spec : {M : Type 1} → statement M
+all-allowed-spec =
     tie.close
     (tie.spec
     Inv-loop
