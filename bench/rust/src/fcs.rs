@@ -12,7 +12,9 @@ fn add_octet(remainder: u8, octet: u8) -> u8 {
 
 /// The FCS of a message.
 pub fn fcs(message: &[u8]) -> u8 {
-    !message.iter().fold(0xFF, |remainder, &octet| add_octet(remainder, octet))
+    !message
+        .iter()
+        .fold(0xFF, |remainder, &octet| add_octet(remainder, octet))
 }
 
 #[cfg(test)]

@@ -27,8 +27,15 @@ pub enum FrameError {
 /// A segment of a message, with what stands before it in the frame.
 #[derive(Clone, Copy, Debug, PartialEq, Eq)]
 pub enum Segment<'a> {
-    Start { length: u16, fcs: u8, octets: &'a [u8] },
-    Continuation { index: u8, octets: &'a [u8] },
+    Start {
+        length: u16,
+        fcs: u8,
+        octets: &'a [u8],
+    },
+    Continuation {
+        index: u8,
+        octets: &'a [u8],
+    },
 }
 
 #[derive(Clone, Copy, Debug, PartialEq, Eq)]
@@ -53,10 +60,17 @@ fn parse_start(last: u8, rest: &[u8]) -> Result<Body<'_>, FrameError> {
     };
     let length = u16::from_be_bytes([*high, *low]);
     let count = usize::from(length);
-    if !is_message_length(count) || usize::from(last) != seg_n(count) || octets.len() != count.min(20) {
+    if !is_message_length(count)
+        || usize::from(last) != seg_n(count)
+        || octets.len() != count.min(20)
+    {
         return Err(FrameError::Malformed);
     }
-    Ok(Body::Segment(Segment::Start { length, fcs: *fcs, octets }))
+    Ok(Body::Segment(Segment::Start {
+        length,
+        fcs: *fcs,
+        octets,
+    }))
 }
 
 fn parse_acknowledgement(padding: u8, rest: &[u8]) -> Result<Body<'_>, FrameError> {

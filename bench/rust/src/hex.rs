@@ -25,5 +25,10 @@ pub fn decode<'a>(text: &[u8], output: &'a mut [u8]) -> Option<&'a [u8]> {
 
 /// Adds the digits of octets, in capitals, to a text.
 pub fn encode(octets: &[u8], text: &mut Vec<u8>) {
-    text.extend(octets.iter().flat_map(|&octet| [CAPITALS[usize::from(octet >> 4)], CAPITALS[usize::from(octet & 15)]]));
+    text.extend(octets.iter().flat_map(|&octet| {
+        [
+            CAPITALS[usize::from(octet >> 4)],
+            CAPITALS[usize::from(octet & 15)],
+        ]
+    }));
 }

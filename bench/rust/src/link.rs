@@ -61,7 +61,14 @@ impl HalfMessage {
 impl Link {
     /// A record that is blank but for its state and its Link ID.
     pub const fn blank(state: LinkState, id: u32) -> Self {
-        Self { state, id, next: TransactionNumber(0), outstanding: false, last: None, half: None }
+        Self {
+            state,
+            id,
+            next: TransactionNumber(0),
+            outstanding: false,
+            last: None,
+            half: None,
+        }
     }
 
     pub fn is_in_use(&self) -> bool {
@@ -69,7 +76,10 @@ impl Link {
     }
 
     fn is_at_rest(&self) -> bool {
-        self.next == TransactionNumber(0) && !self.outstanding && self.last.is_none() && self.half.is_none()
+        self.next == TransactionNumber(0)
+            && !self.outstanding
+            && self.last.is_none()
+            && self.half.is_none()
     }
 
     /// Whether the record is not bad by itself.

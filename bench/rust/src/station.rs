@@ -34,10 +34,15 @@ pub enum Answer {
     AcknowledgeAgain,
     Kept,
     Repeat,
-    Delivered { length: u16, number: TransactionNumber },
+    Delivered {
+        length: u16,
+        number: TransactionNumber,
+    },
     Opened,
     Already,
-    Closed { reason: u8 },
+    Closed {
+        reason: u8,
+    },
     Acknowledged,
 }
 
@@ -62,18 +67,31 @@ impl Link {
             return Err(Refusal::WrongCheck);
         }
         self.last = Some(message.number);
-        Ok(Answer::Delivered { length: message.length, number: message.number })
+        Ok(Answer::Delivered {
+            length: message.length,
+            number: message.number,
+        })
     }
 
     /// A segment of a message: entered, or compared where it is in.
-    fn offer(&mut self, mut message: HalfMessage, index: usize, octets: &[u8], part: &mut [u8]) -> Result<Answer, Refusal> {
+    fn offer(
+        &mut self,
+        mut message: HalfMessage,
+        index: usize,
+        octets: &[u8],
+        part: &mut [u8],
+    ) -> Result<Answer, Refusal> {
         let range = segment_range(usize::from(message.length), index).ok_or(Refusal::Mismatch)?;
         if octets.len() != range.len() {
             return Err(Refusal::Mismatch);
         }
         let place = &mut part[range];
         if message.is_marked(index) {
-            return if place == octets { Ok(Answer::Repeat) } else { Err(Refusal::Mismatch) };
+            return if place == octets {
+                Ok(Answer::Repeat)
+            } else {
+                Err(Refusal::Mismatch)
+            };
         }
         place.copy_from_slice(octets);
         message.marks |= 1 << index;
@@ -81,23 +99,52 @@ impl Link {
     }
 
     /// A segment at an open link.
-    fn receive_segment(&mut self, number: TransactionNumber, segment: Segment, part: &mut [u8]) -> Result<Answer, Refusal> {
+    fn receive_segment(
+        &mut self,
+        number: TransactionNumber,
+        segment: Segment,
+        part: &mut [u8],
+    ) -> Result<Answer, Refusal> {
         if self.last == Some(number) {
             return Ok(Answer::AcknowledgeAgain);
         }
         let half = self.half.filter(|message| message.number == number);
         match (segment, half) {
-            (Segment::Start { length, fcs, octets }, None) => {
-                self.offer(HalfMessage { number, length, fcs, marks: 0 }, 0, octets, part)
-            }
-            (Segment::Start { length, fcs, octets }, Some(message)) => {
+            (
+                Segment::Start {
+                    length,
+                    fcs,
+                    octets,
+                },
+                None,
+            ) => self.offer(
+                HalfMessage {
+                    number,
+                    length,
+                    fcs,
+                    marks: 0,
+                },
+                0,
+                octets,
+                part,
+            ),
+            (
+                Segment::Start {
+                    length,
+                    fcs,
+                    octets,
+                },
+                Some(message),
+            ) => {
                 if message.length != length || message.fcs != fcs {
                     return Err(Refusal::Mismatch);
                 }
                 self.offer(message, 0, octets, part)
             }
             (Segment::Continuation { .. }, None) => Err(Refusal::NotBegun),
-            (Segment::Continuation { index, octets }, Some(message)) => self.offer(message, usize::from(index), octets, part),
+            (Segment::Continuation { index, octets }, Some(message)) => {
+                self.offer(message, usize::from(index), octets, part)
+            }
         }
     }
 
@@ -128,11 +175,17 @@ impl Link {
 
     fn receive_open(&mut self, frame: Frame, part: &mut [u8]) -> Result<Answer, Refusal> {
         match frame.body {
-            Body::Segment(segment) if frame.number.is_from_device() => self.receive_segment(frame.number, segment, part),
-            Body::Acknowledgement if !frame.number.is_from_device() => self.acknowledge(frame.number),
+            Body::Segment(segment) if frame.number.is_from_device() => {
+                self.receive_segment(frame.number, segment, part)
+            }
+            Body::Acknowledgement if !frame.number.is_from_device() => {
+                self.acknowledge(frame.number)
+            }
             Body::Ack => Ok(Answer::Already),
             Body::Close { reason } => self.close(reason),
-            Body::Segment(_) | Body::Acknowledgement | Body::Open { .. } => Err(Refusal::WrongDirection),
+            Body::Segment(_) | Body::Acknowledgement | Body::Open { .. } => {
+                Err(Refusal::WrongDirection)
+            }
         }
     }
 }
@@ -145,7 +198,9 @@ pub struct Station {
 
 impl Default for Station {
     fn default() -> Self {
-        Self { links: [Link::blank(LinkState::Free, 0); SOCKETS] }
+        Self {
+            links: [Link::blank(LinkState::Free, 0); SOCKETS],
+        }
     }
 }
 
@@ -154,12 +209,18 @@ impl Station {
     fn is_good(&self) -> bool {
         let links = &self.links;
         links.iter().all(Link::is_good)
-            && (0..SOCKETS).all(|i| links[i + 1..].iter().all(|other| links[i].is_apart_from(other)))
+            && (0..SOCKETS).all(|i| {
+                links[i + 1..]
+                    .iter()
+                    .all(|other| links[i].is_apart_from(other))
+            })
     }
 
     /// The place of the record in use that has a Link ID.
     fn find(&self, link_id: u32) -> Option<usize> {
-        self.links.iter().position(|link| link.is_in_use() && link.id == link_id)
+        self.links
+            .iter()
+            .position(|link| link.is_in_use() && link.id == link_id)
     }
 
     /// Opens a link with a Link ID at a socket.

@@ -11,7 +11,14 @@ pub const LONGEST_FRAME: usize = 29;
 pub struct WrongArgument;
 
 /// Writes a frame whose octets after the first six are given in two parts; its length.
-fn put_frame(output: &mut [u8], link_id: u32, number: u8, kind: u8, fields: &[u8], octets: &[u8]) -> Result<usize, WrongArgument> {
+fn put_frame(
+    output: &mut [u8],
+    link_id: u32,
+    number: u8,
+    kind: u8,
+    fields: &[u8],
+    octets: &[u8],
+) -> Result<usize, WrongArgument> {
     let count = 6 + fields.len() + octets.len();
     let frame = output.get_mut(..count).ok_or(WrongArgument)?;
     let (head, rest) = frame.split_at_mut(6);
@@ -42,9 +49,23 @@ pub fn write_segment(
     let range = segment_range(message.len(), index).ok_or(WrongArgument)?;
     let octets = &message[range];
     if index > 0 {
-        return put_frame(output, link_id, number.0, (index << 2 | 2) as u8, &[], octets);
+        return put_frame(
+            output,
+            link_id,
+            number.0,
+            (index << 2 | 2) as u8,
+            &[],
+            octets,
+        );
     }
     let [high, low] = (message.len() as u16).to_be_bytes();
     let kind = (seg_n(message.len()) << 2) as u8;
-    put_frame(output, link_id, number.0, kind, &[high, low, fcs(message)], octets)
+    put_frame(
+        output,
+        link_id,
+        number.0,
+        kind,
+        &[high, low, fcs(message)],
+        octets,
+    )
 }

@@ -67,7 +67,11 @@ impl Tray {
     }
 
     /// One message on each socket: one segment of each in turn, every frame twice.
-    fn bring_round(&mut self, messages: &[u8], number: TransactionNumber) -> Result<(), WrongArgument> {
+    fn bring_round(
+        &mut self,
+        messages: &[u8],
+        number: TransactionNumber,
+    ) -> Result<(), WrongArgument> {
         let mut frame = [0; LONGEST_FRAME];
         for index in 0..=seg_n(LONGEST_MESSAGE) {
             for (socket, message) in sockets().zip(messages.chunks_exact(LONGEST_MESSAGE)) {
@@ -88,7 +92,11 @@ fn messages() -> Vec<u8> {
 
 fn main() -> Result<(), WrongArgument> {
     let messages = messages();
-    let mut tray = Tray { station: Station::default(), area: [0; AREA], tally: Tally::default() };
+    let mut tray = Tray {
+        station: Station::default(),
+        area: [0; AREA],
+        tally: Tally::default(),
+    };
     tray.open_all()?;
     let mut number = TransactionNumber(0x80);
     for _ in 0..ROUNDS {

@@ -27,7 +27,9 @@ fn cut(number: TransactionNumber, message: &[u8], text: &mut Vec<u8>) -> Result<
 fn answer(number: TransactionNumber, line: &[u8], text: &mut Vec<u8>) -> TransactionNumber {
     let mut octets = [0; LONGEST_MESSAGE];
     text.clear();
-    let done = hex::decode(line, &mut octets).ok_or(WrongArgument).and_then(|message| cut(number, message, text));
+    let done = hex::decode(line, &mut octets)
+        .ok_or(WrongArgument)
+        .and_then(|message| cut(number, message, text));
     match done {
         Ok(()) => number.next(),
         Err(WrongArgument) => {
@@ -40,7 +42,10 @@ fn answer(number: TransactionNumber, line: &[u8], text: &mut Vec<u8>) -> Transac
 /// Reads a line without its newline, no more of it than LONGEST_LINE characters; false at the end of input.
 fn read_line(input: &mut impl BufRead, line: &mut Vec<u8>) -> io::Result<bool> {
     line.clear();
-    input.by_ref().take(LONGEST_LINE as u64).read_until(b'\n', line)?;
+    input
+        .by_ref()
+        .take(LONGEST_LINE as u64)
+        .read_until(b'\n', line)?;
     if line.last() == Some(&b'\n') {
         line.pop();
         return Ok(true);
