@@ -98,7 +98,12 @@ impl Link {
         self.complete(message, part)
     }
 
-    /// A segment at an open link.
+    /// The half-received message of a number.
+    fn half_of(&self, number: TransactionNumber) -> Option<HalfMessage> {
+        self.half.filter(|message| message.number == number)
+    }
+
+    /// A segment at an open link; a Start of another number replaces a half-received message.
     fn receive_segment(
         &mut self,
         number: TransactionNumber,
@@ -108,41 +113,26 @@ impl Link {
         if self.last == Some(number) {
             return Ok(Answer::AcknowledgeAgain);
         }
-        let half = self.half.filter(|message| message.number == number);
-        match (segment, half) {
-            (
-                Segment::Start {
-                    length,
-                    fcs,
-                    octets,
-                },
-                None,
-            ) => self.offer(
-                HalfMessage {
+        match segment {
+            Segment::Start {
+                length,
+                fcs,
+                octets,
+            } => {
+                let begun = HalfMessage {
                     number,
                     length,
                     fcs,
                     marks: 0,
-                },
-                0,
-                octets,
-                part,
-            ),
-            (
-                Segment::Start {
-                    length,
-                    fcs,
-                    octets,
-                },
-                Some(message),
-            ) => {
+                };
+                let message = self.half_of(number).unwrap_or(begun);
                 if message.length != length || message.fcs != fcs {
                     return Err(Refusal::Mismatch);
                 }
                 self.offer(message, 0, octets, part)
             }
-            (Segment::Continuation { .. }, None) => Err(Refusal::NotBegun),
-            (Segment::Continuation { index, octets }, Some(message)) => {
+            Segment::Continuation { index, octets } => {
+                let message = self.half_of(number).ok_or(Refusal::NotBegun)?;
                 self.offer(message, usize::from(index), octets, part)
             }
         }
