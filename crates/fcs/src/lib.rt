@@ -11,9 +11,13 @@ fn bit_step(x: u8) -> u8
 fn octet_step(remainder: u8, octet: u8) -> u8
     ensures { λ r. ⌜ r ≡ octetStep remainder octet ⌝ }
 {
-    let x = remainder ^ octet;
-    let y = bit_step(bit_step(bit_step(bit_step(x))));
-    bit_step(bit_step(bit_step(bit_step(y))))
+    let mut x = remainder ^ octet;
+    let mut done: u8 = 0;
+    while done < 8 {
+        x = bit_step(x);
+        done += 1;
+    }
+    x
 }
 
 fn remainder_of(message: &[u8]) -> u8

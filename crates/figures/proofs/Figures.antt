@@ -2,8 +2,12 @@
 use mathlib.Core.Path.{refl}
 use Rattle.fcs.specs.Fcs.{checkOctet, octetStep, bitStep}
 use Rattle.beacon.specs.Rules.{outOfWindow}
+use Rattle.octets.specs.Cut.{piece, upTo}
+use Rattle.proxy.specs.Pieces.{lastPiece, topBits, pieceOctets}
+use Rattle.proxy_filter.specs.Filters.{findFrom, holding, isGood}
+use Rattle.proxy_filter.specs.Calls.{changed, changeOf, requestOf, controlled}
 use Rattle.figures.specs.Figures.{FiguresHold}
 
 pub figures-hold : FiguresHold
-unfolding checkOctet octetStep bitStep outOfWindow
+unfolding checkOctet octetStep bitStep outOfWindow piece upTo lastPiece topBits pieceOctets findFrom holding isGood changed changeOf requestOf controlled
 figures-hold = refl
