@@ -1,0 +1,257 @@
+// The lines of the import step: the header, stock records, other messages, refusals and missing records, each written at the start of a
+// lent output.
+use pb_adv::Socket;
+use pb_adv::TransactionNumber;
+use provisioning::Capabilities;
+use provisioning::Message;
+ghost use mathlib.Core.Bool.{cond};
+ghost use mathlib.Core.List.{[], _∷_, _++_};
+ghost use mathlib.Core.Path.{_≡_};
+ghost use Prim.Native.Nat.{_+_, _*_, _≤_};
+ghost use lib.Dec.{leb};
+ghost use lib.ListN.{length, take};
+ghost use Rattle.octets.specs.Parts.{write};
+ghost use Rattle.stock_record.specs.Texts.{decimalOf, hexadecimalOf, nameOf, fieldText, lineOf, headerLine, recordLine, otherLine, refusalLine, missingLine, textWritten, textOutput, FieldAsks};
+ghost use Rattle.stock_record.specs.declared.Field.the-variants.{Number, Pair, Refusal};
+
+// A field of a line.
+pub enum Field {
+    // One character.
+    Mark(u8),
+    Decimal(u64),
+    // In hexadecimal, at full width.
+    Octet(u8),
+    Pair(u16),
+    Number(u32),
+    // Document 01's number of a refusal, behind an exclamation mark.
+    Refusal(u8),
+    // The name of a message.
+    Name(Message),
+}
+
+// The answer to the writing of a text.
+pub enum TextWritten {
+    // The length of the text, which stands at the start of the output.
+    Text(usize),
+    // Refusal 11: the output is shorter than the text, and as it was.
+    OutputTooShort,
+}
+
+// A text at the start of the output, or refusal 11.
+fn write_text(text: &[u8], output: &mut [u8]) -> TextWritten
+    ensures { λ r. ⌜ (r ≡ textWritten (now (text .entry)) (now (output .entry)))
+        × (now (output .exit) ≡ textOutput (now (text .entry)) (now (output .entry))) ⌝ }
+{
+    if octets::copy(output, 0, text, 0, text.len()) {
+        TextWritten::Text(text.len())
+    } else {
+        TextWritten::OutputTooShort
+    }
+}
+
+// A text at a place of a line; the place after it.
+fn put_text(line: &mut [u8], at: usize, text: &[u8]) -> usize
+    requires { ⌜ at + length (now text) ≤ length (now line) ⌝ }
+    ensures { λ r. ⌜ (r ≡ at + length (now (text .entry)))
+        × (now (line .exit) ≡ write (now (line .entry)) at (now (text .entry))) ⌝ }
+{
+    octets::copy(line, at, text, 0, text.len());
+    at + text.len()
+}
+
+fn put_decimal(line: &mut [u8], at: usize, value: u64) -> usize
+    requires { ⌜ FieldAsks (now line) at ⌝ }
+    ensures { λ r. ⌜ (r ≡ at + length (decimalOf value))
+        × (now (line .exit) ≡ write (now (line .entry)) at (decimalOf value)) ⌝ }
+{
+    let mut digits = [0u8; 20];
+    let n = io::decimal(value, &mut digits);
+    put_text(line, at, &digits[..n])
+}
+
+fn put_hexadecimal(line: &mut [u8], at: usize, octets: &[u8]) -> usize
+    requires { ⌜ (length (now octets) ≤ 4) × FieldAsks (now line) at ⌝ }
+    ensures { λ r. ⌜ (r ≡ at + length (hexadecimalOf (now (octets .entry))))
+        × (now (line .exit) ≡ write (now (line .entry)) at (hexadecimalOf (now (octets .entry)))) ⌝ }
+{
+    let digits = put_text(line, at, b"0x");
+    hex::encode(octets, line, digits);
+    digits + 2 * octets.len()
+}
+
+fn put_name(line: &mut [u8], at: usize, message: Message) -> usize
+    requires { ⌜ FieldAsks (now line) at ⌝ }
+    ensures { λ r. ⌜ (r ≡ at + length (nameOf message))
+        × (now (line .exit) ≡ write (now (line .entry)) at (nameOf message)) ⌝ }
+{
+    match message {
+        Message::Invite { attention: _ } => put_text(line, at, b"Invite"),
+        Message::Capabilities(_) => put_text(line, at, b"Capabilities"),
+        Message::Start(_) => put_text(line, at, b"Start"),
+        Message::PublicKey { x: _, y: _ } => put_text(line, at, b"Public Key"),
+        Message::InputComplete => put_text(line, at, b"Input Complete"),
+        Message::Confirmation { confirmation: _ } => put_text(line, at, b"Confirmation"),
+        Message::Random { random: _ } => put_text(line, at, b"Random"),
+        Message::Data {
+            encrypted: _,
+            mic: _,
+        } => put_text(line, at, b"Data"),
+        Message::Complete => put_text(line, at, b"Complete"),
+        Message::Failed { code: _ } => put_text(line, at, b"Failed"),
+        Message::Refused(_) => at,
+    }
+}
+
+fn put_number(line: &mut [u8], at: usize, value: u32) -> usize
+    requires { ⌜ FieldAsks (now line) at ⌝ }
+    ensures { λ r. ⌜ (r ≡ at + length (fieldText (Number value)))
+        × (now (line .exit) ≡ write (now (line .entry)) at (fieldText (Number value))) ⌝ }
+{
+    let octets = [
+        (value / 16777216) as u8,
+        (value / 65536 % 256) as u8,
+        (value / 256 % 256) as u8,
+        (value % 256) as u8,
+    ];
+    put_hexadecimal(line, at, &octets)
+}
+
+fn put_pair(line: &mut [u8], at: usize, value: u16) -> usize
+    requires { ⌜ FieldAsks (now line) at ⌝ }
+    ensures { λ r. ⌜ (r ≡ at + length (fieldText (Pair value)))
+        × (now (line .exit) ≡ write (now (line .entry)) at (fieldText (Pair value))) ⌝ }
+{
+    let octets = [(value / 256) as u8, (value % 256) as u8];
+    put_hexadecimal(line, at, &octets)
+}
+
+fn put_refusal(line: &mut [u8], at: usize, refusal: u8) -> usize
+    requires { ⌜ FieldAsks (now line) at ⌝ }
+    ensures { λ r. ⌜ (r ≡ at + length (fieldText (Refusal refusal)))
+        × (now (line .exit) ≡ write (now (line .entry)) at (fieldText (Refusal refusal))) ⌝ }
+{
+    let text = [b'!', 48 + refusal / 10 % 10, 48 + refusal % 10];
+    put_text(line, at, &text)
+}
+
+// The text of a field at a place of a line; the place after it.
+fn put_field(line: &mut [u8], at: usize, field: Field) -> usize
+    requires { ⌜ FieldAsks (now line) at ⌝ }
+    ensures { λ r. ⌜ (r ≡ at + length (fieldText field))
+        × (now (line .exit) ≡ write (now (line .entry)) at (fieldText field)) ⌝ }
+{
+    match field {
+        Field::Mark(character) => put_text(line, at, &[character]),
+        Field::Decimal(value) => put_decimal(line, at, value),
+        Field::Octet(value) => put_hexadecimal(line, at, &[value]),
+        Field::Pair(value) => put_pair(line, at, value),
+        Field::Number(value) => put_number(line, at, value),
+        Field::Refusal(refusal) => put_refusal(line, at, refusal),
+        Field::Name(message) => put_name(line, at, message),
+    }
+}
+
+// What stands behind the field at a place of so many.
+fn end_of(index: usize, count: usize) -> u8
+    requires { ⌜ index + 1 ≤ count ⌝ }
+    ensures { λ r. ⌜ r ≡ cond (leb count (index + 1)) 10 44 ⌝ }
+{
+    if count <= index + 1 { b'\n' } else { b',' }
+}
+
+// A field and what stands behind it.
+fn put_ended(line: &mut [u8], at: usize, field: Field, end: u8) -> usize
+    requires { ⌜ FieldAsks (now line) at ⌝ }
+    ensures { λ r. ⌜ (r ≡ at + length (fieldText field ++ (end ∷ [])))
+        × (now (line .exit) ≡ write (now (line .entry)) at (fieldText field ++ (end ∷ []))) ⌝ }
+{
+    let next = put_field(line, at, field);
+    line[next] = end;
+    next + 1
+}
+
+// The line of the first fields. No line has more than the eleven of a record, and none of them more than 20 characters.
+fn write_fields(fields: [Field; 11], count: usize, output: &mut [u8]) -> TextWritten
+    requires { ⌜ count ≤ 11 ⌝ }
+    ensures { λ r. ⌜ (r ≡ textWritten (lineOf (take count fields)) (now (output .entry)))
+        × (now (output .exit) ≡ textOutput (lineOf (take count fields)) (now (output .entry))) ⌝ }
+{
+    let mut line = [0u8; 231];
+    let mut at = 0;
+    let mut i = 0;
+    while i < count {
+        let field = fields[i];
+        at = put_ended(&mut line, at, field, end_of(i, count));
+        i += 1;
+    }
+    write_text(&line[..at], output)
+}
+
+// The first line of all.
+pub fn write_header(output: &mut [u8]) -> TextWritten
+    ensures { λ r. ⌜ (r ≡ textWritten headerLine (now (output .entry)))
+        × (now (output .exit) ≡ textOutput headerLine (now (output .entry))) ⌝ }
+{
+    write_text(
+        b"socket,link_id,number,elements,algorithms,public_key_type,static_oob_type,output_oob_size,output_oob_action,input_oob_size,input_oob_action\n",
+        output,
+    )
+}
+
+// The record of a Capabilities message that was delivered at a socket, under a Link ID and a number.
+pub fn write_record(
+    socket: Socket,
+    id: u32,
+    number: TransactionNumber,
+    capabilities: Capabilities,
+    output: &mut [u8],
+) -> TextWritten
+    ensures { λ r. ⌜ (r ≡ textWritten (recordLine socket id number capabilities) (now (output .entry)))
+        × (now (output .exit) ≡ textOutput (recordLine socket id number capabilities) (now (output .entry))) ⌝ }
+{
+    let fields = [
+        Field::Decimal(socket.0 as u64),
+        Field::Number(id),
+        Field::Octet(number.0),
+        Field::Decimal(capabilities.elements as u64),
+        Field::Pair(capabilities.algorithms),
+        Field::Decimal(capabilities.public_key_type as u64),
+        Field::Decimal(capabilities.static_oob_type as u64),
+        Field::Decimal(capabilities.output_oob_size as u64),
+        Field::Pair(capabilities.output_oob_action),
+        Field::Decimal(capabilities.input_oob_size as u64),
+        Field::Pair(capabilities.input_oob_action),
+    ];
+    write_fields(fields, 11, output)
+}
+
+// The line of a message of another kind, that an input line delivered.
+pub fn write_other(line: u64, message: Message, output: &mut [u8]) -> TextWritten
+    ensures { λ r. ⌜ (r ≡ textWritten (otherLine line message) (now (output .entry)))
+        × (now (output .exit) ≡ textOutput (otherLine line message) (now (output .entry))) ⌝ }
+{
+    let mut fields = [Field::Mark(b'-'); 11];
+    fields[1] = Field::Decimal(line);
+    fields[2] = Field::Name(message);
+    write_fields(fields, 3, output)
+}
+
+// The line of a refusal, by document 01's number, at an input line.
+pub fn write_refusal(refusal: u8, line: u64, output: &mut [u8]) -> TextWritten
+    ensures { λ r. ⌜ (r ≡ textWritten (refusalLine refusal line) (now (output .entry)))
+        × (now (output .exit) ≡ textOutput (refusalLine refusal line) (now (output .entry))) ⌝ }
+{
+    let mut fields = [Field::Refusal(refusal); 11];
+    fields[1] = Field::Decimal(line);
+    write_fields(fields, 2, output)
+}
+
+// The line of a socket that has no record.
+pub fn write_missing(socket: Socket, output: &mut [u8]) -> TextWritten
+    ensures { λ r. ⌜ (r ≡ textWritten (missingLine socket) (now (output .entry)))
+        × (now (output .exit) ≡ textOutput (missingLine socket) (now (output .entry))) ⌝ }
+{
+    let mut fields = [Field::Mark(b'?'); 11];
+    fields[1] = Field::Decimal(socket.0 as u64);
+    write_fields(fields, 2, output)
+}
