@@ -1,9 +1,10 @@
 -- The lines of the import step: fields with a comma between them and a newline at the end. Characters are ASCII octets.
 use Prim.Native.Char.{code}
-use Prim.Native.Nat.{ℕ, zero, suc, _+_, _*_, _/_, _%_, _≤_}
+use Prim.Native.Nat.{ℕ, zero, suc, _+_, _/_, _%_, _≤_}
 use Prim.Native.String.{String, charAt, len}
 use mathlib.Core.Bool.{cond}
 use mathlib.Core.List.{List, [], _∷_, _++_}
+use mathlib.Core.Path.{_≡_}
 use lib.Dec.{leb, eqb}
 use lib.ListN.{length}
 use Rattle.octets.specs.Numbers.{octets16, octets32}
@@ -34,7 +35,7 @@ ascii text = charactersFrom (len text) 0 text
 -- the decimal digits of n, at most so many of them; 0 has none
 abbrev pub digitsUpTo : ℕ → ℕ → List ℕ
 digitsUpTo zero n = []
-digitsUpTo (suc most) n = cond (eqb n 0) [] (digitsUpTo most (n / 10) ++ (48 + n % 10 ∷ []))
+digitsUpTo (suc most) n = cond (eqb n 0) [] (digitsUpTo most (n / 10) ++ ((48 + n % 10) ∷ []))
 
 -- A NUMBER IN DECIMAL: its digits, of which it has no more than its own value; `0` for 0
 unfoldable pub decimalOf : ℕ → List ℕ
@@ -46,7 +47,7 @@ hexadecimalOf octets = 48 ∷ 120 ∷ textOf octets
 
 -- the last two decimal digits of a number
 abbrev pub twoDigits : ℕ → List ℕ
-twoDigits n = 48 + n / 10 % 10 ∷ 48 + n % 10 ∷ []
+twoDigits n = (48 + n / 10 % 10) ∷ (48 + n % 10) ∷ []
 
 abbrev pub word : Told → String
 word (refused n) = ""
@@ -129,6 +130,12 @@ textWritten text output = cond (leb (length text) (length output)) (Text (length
 unfoldable pub textOutput : List ℕ → List ℕ → List ℕ
 textOutput text output = cond (leb (length text) (length output)) (write output 0 text) output
 
+-- ---- a field in a line
+
 -- room for any field and what stands behind it
 abbrev pub FieldAsks : List ℕ → ℕ → Type 0
 FieldAsks line at = at + 21 ≤ length line
+
+-- what the writing of a field's text at a place does: the place after it, the line, and that no field is longer than 20 characters
+abbrev pub FieldPut : List ℕ → ℕ → List ℕ → ℕ → List ℕ → Type 0
+FieldPut line at text next after = (next ≡ at + length text) × (after ≡ write line at text) × (next ≤ at + 20)

@@ -11,7 +11,7 @@ ghost use Prim.Native.Nat.{_+_, _*_, _≤_};
 ghost use lib.Dec.{leb};
 ghost use lib.ListN.{length, take};
 ghost use Rattle.octets.specs.Parts.{write};
-ghost use Rattle.stock_record.specs.Texts.{decimalOf, hexadecimalOf, nameOf, fieldText, lineOf, headerLine, recordLine, otherLine, refusalLine, missingLine, textWritten, textOutput, FieldAsks};
+ghost use Rattle.stock_record.specs.Texts.{decimalOf, hexadecimalOf, nameOf, fieldText, lineOf, headerLine, recordLine, otherLine, refusalLine, missingLine, textWritten, textOutput, FieldAsks, FieldPut};
 ghost use Rattle.stock_record.specs.declared.Field.the-variants.{Number, Pair, Refusal};
 
 // A field of a line.
@@ -61,8 +61,7 @@ fn put_text(line: &mut [u8], at: usize, text: &[u8]) -> usize
 
 fn put_decimal(line: &mut [u8], at: usize, value: u64) -> usize
     requires { ⌜ FieldAsks (now line) at ⌝ }
-    ensures { λ r. ⌜ (r ≡ at + length (decimalOf value))
-        × (now (line .exit) ≡ write (now (line .entry)) at (decimalOf value)) ⌝ }
+    ensures { λ r. ⌜ FieldPut (now (line .entry)) at (decimalOf value) r (now (line .exit)) ⌝ }
 {
     let mut digits = [0u8; 20];
     let n = io::decimal(value, &mut digits);
@@ -71,8 +70,7 @@ fn put_decimal(line: &mut [u8], at: usize, value: u64) -> usize
 
 fn put_hexadecimal(line: &mut [u8], at: usize, octets: &[u8]) -> usize
     requires { ⌜ (length (now octets) ≤ 4) × FieldAsks (now line) at ⌝ }
-    ensures { λ r. ⌜ (r ≡ at + length (hexadecimalOf (now (octets .entry))))
-        × (now (line .exit) ≡ write (now (line .entry)) at (hexadecimalOf (now (octets .entry)))) ⌝ }
+    ensures { λ r. ⌜ FieldPut (now (line .entry)) at (hexadecimalOf (now (octets .entry))) r (now (line .exit)) ⌝ }
 {
     let digits = put_text(line, at, b"0x");
     hex::encode(octets, line, digits);
@@ -81,8 +79,7 @@ fn put_hexadecimal(line: &mut [u8], at: usize, octets: &[u8]) -> usize
 
 fn put_name(line: &mut [u8], at: usize, message: Message) -> usize
     requires { ⌜ FieldAsks (now line) at ⌝ }
-    ensures { λ r. ⌜ (r ≡ at + length (nameOf message))
-        × (now (line .exit) ≡ write (now (line .entry)) at (nameOf message)) ⌝ }
+    ensures { λ r. ⌜ FieldPut (now (line .entry)) at (nameOf message) r (now (line .exit)) ⌝ }
 {
     match message {
         Message::Invite { attention: _ } => put_text(line, at, b"Invite"),
@@ -104,8 +101,7 @@ fn put_name(line: &mut [u8], at: usize, message: Message) -> usize
 
 fn put_number(line: &mut [u8], at: usize, value: u32) -> usize
     requires { ⌜ FieldAsks (now line) at ⌝ }
-    ensures { λ r. ⌜ (r ≡ at + length (fieldText (Number value)))
-        × (now (line .exit) ≡ write (now (line .entry)) at (fieldText (Number value))) ⌝ }
+    ensures { λ r. ⌜ FieldPut (now (line .entry)) at (fieldText (Number value)) r (now (line .exit)) ⌝ }
 {
     let octets = [
         (value / 16777216) as u8,
@@ -118,8 +114,7 @@ fn put_number(line: &mut [u8], at: usize, value: u32) -> usize
 
 fn put_pair(line: &mut [u8], at: usize, value: u16) -> usize
     requires { ⌜ FieldAsks (now line) at ⌝ }
-    ensures { λ r. ⌜ (r ≡ at + length (fieldText (Pair value)))
-        × (now (line .exit) ≡ write (now (line .entry)) at (fieldText (Pair value))) ⌝ }
+    ensures { λ r. ⌜ FieldPut (now (line .entry)) at (fieldText (Pair value)) r (now (line .exit)) ⌝ }
 {
     let octets = [(value / 256) as u8, (value % 256) as u8];
     put_hexadecimal(line, at, &octets)
@@ -127,8 +122,7 @@ fn put_pair(line: &mut [u8], at: usize, value: u16) -> usize
 
 fn put_refusal(line: &mut [u8], at: usize, refusal: u8) -> usize
     requires { ⌜ FieldAsks (now line) at ⌝ }
-    ensures { λ r. ⌜ (r ≡ at + length (fieldText (Refusal refusal)))
-        × (now (line .exit) ≡ write (now (line .entry)) at (fieldText (Refusal refusal))) ⌝ }
+    ensures { λ r. ⌜ FieldPut (now (line .entry)) at (fieldText (Refusal refusal)) r (now (line .exit)) ⌝ }
 {
     let text = [b'!', 48 + refusal / 10 % 10, 48 + refusal % 10];
     put_text(line, at, &text)
@@ -137,8 +131,7 @@ fn put_refusal(line: &mut [u8], at: usize, refusal: u8) -> usize
 // The text of a field at a place of a line; the place after it.
 fn put_field(line: &mut [u8], at: usize, field: Field) -> usize
     requires { ⌜ FieldAsks (now line) at ⌝ }
-    ensures { λ r. ⌜ (r ≡ at + length (fieldText field))
-        × (now (line .exit) ≡ write (now (line .entry)) at (fieldText field)) ⌝ }
+    ensures { λ r. ⌜ FieldPut (now (line .entry)) at (fieldText field) r (now (line .exit)) ⌝ }
 {
     match field {
         Field::Mark(character) => put_text(line, at, &[character]),
@@ -163,7 +156,8 @@ fn end_of(index: usize, count: usize) -> u8
 fn put_ended(line: &mut [u8], at: usize, field: Field, end: u8) -> usize
     requires { ⌜ FieldAsks (now line) at ⌝ }
     ensures { λ r. ⌜ (r ≡ at + length (fieldText field ++ (end ∷ [])))
-        × (now (line .exit) ≡ write (now (line .entry)) at (fieldText field ++ (end ∷ []))) ⌝ }
+        × (now (line .exit) ≡ write (now (line .entry)) at (fieldText field ++ (end ∷ [])))
+        × (r ≤ at + 21) ⌝ }
 {
     let next = put_field(line, at, field);
     line[next] = end;

@@ -1,0 +1,21 @@
+use Rattle.stock_record.specs.Texts.{headerLine}
+use borrow.Author.Needs.{needs}
+use Rattle.stock_record.proofs.write_header.Statement.{statement}
+use Rattle.stock_record.proofs.write_header.Tie as tie
+
+slice-aggregate-write-text : tie.Need-slice-aggregate-write-text
+slice-aggregate-write-text c = search needs
+
+write-text-requires : tie.Need-write-text-requires
+write-text-requires c κs = search needs
+
+same-length : tie.Need-same-length
+same-length c = search needs
+
+returns : tie.Need-returns
+unfolding headerLine
+returns c = c .before .before .write-text .ensures
+
+pub write-header-spec : {M : Type 1} → statement M
+write-header-spec =
+    tie.close (tie.spec slice-aggregate-write-text write-text-requires same-length returns)
