@@ -37,6 +37,9 @@ pub enum TextWritten {
     OutputTooShort,
 }
 
+// No line is longer: eleven fields of at most 20 characters, and the comma or newline behind each.
+pub const MOST: usize = 231;
+
 // A text at the start of the output, or refusal 11.
 fn write_text(text: &[u8], output: &mut [u8]) -> TextWritten
     ensures { λ r. ⌜ (r ≡ textWritten (now (text .entry)) (now (output .entry)))
@@ -168,7 +171,8 @@ fn put_ended(line: &mut [u8], at: usize, field: Field, end: u8) -> usize
 fn write_fields(fields: [Field; 11], count: usize, output: &mut [u8]) -> TextWritten
     requires { ⌜ count ≤ 11 ⌝ }
     ensures { λ r. ⌜ (r ≡ textWritten (lineOf (take count fields)) (now (output .entry)))
-        × (now (output .exit) ≡ textOutput (lineOf (take count fields)) (now (output .entry))) ⌝ }
+        × (now (output .exit) ≡ textOutput (lineOf (take count fields)) (now (output .entry)))
+        × (length (lineOf (take count fields)) ≤ 231) ⌝ }
 {
     let mut line = [0u8; 231];
     let mut at = 0;
@@ -184,7 +188,8 @@ fn write_fields(fields: [Field; 11], count: usize, output: &mut [u8]) -> TextWri
 // The first line of all.
 pub fn write_header(output: &mut [u8]) -> TextWritten
     ensures { λ r. ⌜ (r ≡ textWritten headerLine (now (output .entry)))
-        × (now (output .exit) ≡ textOutput headerLine (now (output .entry))) ⌝ }
+        × (now (output .exit) ≡ textOutput headerLine (now (output .entry)))
+        × (length headerLine ≤ 231) ⌝ }
 {
     write_text(
         b"socket,link_id,number,elements,algorithms,public_key_type,static_oob_type,output_oob_size,output_oob_action,input_oob_size,input_oob_action\n",
@@ -201,7 +206,8 @@ pub fn write_record(
     output: &mut [u8],
 ) -> TextWritten
     ensures { λ r. ⌜ (r ≡ textWritten (recordLine socket id number capabilities) (now (output .entry)))
-        × (now (output .exit) ≡ textOutput (recordLine socket id number capabilities) (now (output .entry))) ⌝ }
+        × (now (output .exit) ≡ textOutput (recordLine socket id number capabilities) (now (output .entry)))
+        × (length (recordLine socket id number capabilities) ≤ 231) ⌝ }
 {
     let fields = [
         Field::Decimal(socket.0 as u64),
@@ -222,7 +228,8 @@ pub fn write_record(
 // The line of a message of another kind, that an input line delivered.
 pub fn write_other(line: u64, message: Message, output: &mut [u8]) -> TextWritten
     ensures { λ r. ⌜ (r ≡ textWritten (otherLine line message) (now (output .entry)))
-        × (now (output .exit) ≡ textOutput (otherLine line message) (now (output .entry))) ⌝ }
+        × (now (output .exit) ≡ textOutput (otherLine line message) (now (output .entry)))
+        × (length (otherLine line message) ≤ 231) ⌝ }
 {
     let mut fields = [Field::Mark(b'-'); 11];
     fields[1] = Field::Decimal(line);
@@ -233,7 +240,8 @@ pub fn write_other(line: u64, message: Message, output: &mut [u8]) -> TextWritte
 // The line of a refusal, by document 01's number, at an input line.
 pub fn write_refusal(refusal: u8, line: u64, output: &mut [u8]) -> TextWritten
     ensures { λ r. ⌜ (r ≡ textWritten (refusalLine refusal line) (now (output .entry)))
-        × (now (output .exit) ≡ textOutput (refusalLine refusal line) (now (output .entry))) ⌝ }
+        × (now (output .exit) ≡ textOutput (refusalLine refusal line) (now (output .entry)))
+        × (length (refusalLine refusal line) ≤ 231) ⌝ }
 {
     let mut fields = [Field::Refusal(refusal); 11];
     fields[1] = Field::Decimal(line);
@@ -243,7 +251,8 @@ pub fn write_refusal(refusal: u8, line: u64, output: &mut [u8]) -> TextWritten
 // The line of a socket that has no record.
 pub fn write_missing(socket: Socket, output: &mut [u8]) -> TextWritten
     ensures { λ r. ⌜ (r ≡ textWritten (missingLine socket) (now (output .entry)))
-        × (now (output .exit) ≡ textOutput (missingLine socket) (now (output .entry))) ⌝ }
+        × (now (output .exit) ≡ textOutput (missingLine socket) (now (output .entry)))
+        × (length (missingLine socket) ≤ 231) ⌝ }
 {
     let mut fields = [Field::Mark(b'?'); 11];
     fields[1] = Field::Decimal(socket.0 as u64);

@@ -84,7 +84,10 @@ same-length c = search needs
 
 returns : tie.Need-returns Inv-loop μ-loop
 returns c =
-    rw (← (text (c .before .before .before .before .before) .1)) (c .before .before .write-text .ensures)
+    let l = c .before .before .before .before .before .before .loop in
+    let t = text (c .before .before .before .before .before) in
+    let w = c .before .before .write-text .ensures in
+    rw (← (t .1)) (w .0, w .1, omega (arith, length-take-le (l .at) (l .line) (omega (arith, l .inv)), l .inv))
 
 pub write-fields-spec : {M : Type 1} → statement M
 write-fields-spec =

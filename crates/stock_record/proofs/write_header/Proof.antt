@@ -1,3 +1,4 @@
+use native.Mathlib.Omega.{arith}
 use Rattle.stock_record.specs.Texts.{headerLine}
 use borrow.Author.Needs.{needs}
 use Rattle.stock_record.proofs.write_header.Statement.{statement}
@@ -14,7 +15,7 @@ same-length c = search needs
 
 returns : tie.Need-returns
 unfolding headerLine
-returns c = c .before .before .write-text .ensures
+returns c = let w = c .before .before .write-text .ensures in (w .0, w .1, omega arith)
 
 pub write-header-spec : {M : Type 1} → statement M
 write-header-spec =
