@@ -1,12 +1,13 @@
 -- The import step: one line of input, what it does to the tray and the lent area, and what it writes.
-use Prim.Native.Nat.{ℕ, suc, _*_, _-_}
+use Prim.Native.Nat.{ℕ, _+_, _*_, _-_}
 use mathlib.Core.Bool.{Bool, true, false, _&&_, cond}
-use mathlib.Core.List.{List, [], _∷_, _++_}
+use mathlib.Core.List.{List, []}
 use lib.Dec.{leb, eqb}
 use lib.ListN.{length, getD, drop, set}
 use Rattle.octets.specs.Numbers.{big32}
 use Rattle.octets.specs.Parts.{part}
 use Rattle.hex.specs.Hex.{allDigits, isHexadecimal, octetsOf}
+use Rattle.pb_adv.specs.Numbers.{isSocket}
 use Rattle.pb_adv.specs.Frame.{linkId}
 use Rattle.pb_adv.specs.declared.Socket.{Socket}
 use Rattle.pb_adv.specs.declared.TransactionNumber.{TransactionNumber}
@@ -104,7 +105,7 @@ refusedStep tray number n = stepTo tray (refusalLine n number)
 
 -- the socket at place s, counted from 0
 abbrev pub socketAt : ℕ → Socket
-socketAt s = record { 0 = suc s }
+socketAt s = record { 0 = s + 1 }
 
 -- a socket's record is awaited from its opening to its record line
 abbrev pub withAwaited : Tray → ℕ → Bool → Tray
@@ -163,10 +164,10 @@ lineArea tray area line = cond (isFrame line) (received Provisioner (stationOf t
 
 -- ---- after the last line of input
 
--- the sockets from place s on that await a record, one line each
-unfoldable pub missingFrom : ℕ → List Bool → List ℕ
-missingFrom s [] = []
-missingFrom s (awaited ∷ l) = cond awaited (missingLine (socketAt s)) [] ++ missingFrom (suc s) l
+-- a socket that was opened and has had no record line since
+abbrev pub isMissing : Tray → Socket → Bool
+isMissing tray socket = isSocket socket 8 && getD (tray .awaited) (socket .0 - 1) false
 
-unfoldable pub missingText : Tray → List ℕ
-missingText tray = missingFrom 0 (tray .awaited)
+-- its line; no text for any other
+unfoldable pub missingText : Tray → Socket → List ℕ
+missingText tray socket = cond (isMissing tray socket) (missingLine socket) []

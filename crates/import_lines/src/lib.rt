@@ -6,6 +6,7 @@ use links::Link;
 use pb_adv::TransactionNumber;
 use provisioning::Capabilities;
 pub use steps::import_line;
+pub use steps::missing_line;
 pub use steps::new_tray;
 use stock_record::TextWritten;
 

@@ -8,6 +8,7 @@ use super::answers::outcome_of;
 use super::answers::reading_of;
 use hex::Decoded;
 use links::Found;
+use links::Link;
 use octets::octet_at;
 use octets::read32;
 use pb_adv::Socket;
@@ -20,11 +21,11 @@ ghost use mathlib.Core.Path.{_≡_};
 ghost use Prim.Native.Nat.{_*_, _≤_, _<_};
 ghost use lib.ListN.{length, replicate};
 ghost use Rattle.pb_adv.specs.Frame.{linkId};
-ghost use Rattle.links.specs.Links.{blank};
+ghost use Rattle.links.specs.Links.{blank, find};
 ghost use Rattle.links.specs.Station.{received};
 ghost use Rattle.links.specs.declared.Side.the-variants.{Provisioner};
 ghost use Rattle.stock_record.specs.Texts.{textWritten, textOutput};
-ghost use Rattle.import_lines.specs.Lines.{stepTo, trayOf, stationOf, withAwaited, refusedStep, openedStep, messageStep, deliveredAt, frameStep, beginsOpening, otherStep, lineStep, lineArea, missingFrom, missingText};
+ghost use Rattle.import_lines.specs.Lines.{stepTo, trayOf, stationOf, withAwaited, refusedStep, openedStep, messageStep, deliveredAt, frameStep, beginsOpening, otherStep, lineStep, lineArea, missingText};
 ghost use Rattle.import_lines.specs.Steps.{stepped, importedOf, areaAfter, outputAfter, Does, FoundWithin};
 
 // The tray at the start: eight free sockets, and no record awaited.
@@ -154,6 +155,13 @@ fn take_delivery(
     }
 }
 
+// The place of the record in use that has a Link ID.
+fn find_place(links: [Link; 8], id: u32) -> Found
+    ensures { λ r. ⌜ (r ≡ find links id) × FoundWithin r ⌝ }
+{
+    link_state::find_link(links, id)
+}
+
 // A frame as it was heard.
 fn take_frame(tray: Tray, area: &mut [u8], number: u64, frame: &[u8], output: &mut [u8]) -> Imported
     requires { ⌜ 231 ≤ length (now output) ⌝ }
@@ -163,7 +171,7 @@ fn take_frame(tray: Tray, area: &mut [u8], number: u64, frame: &[u8], output: &m
     let links = tray.links;
     let awaited = tray.awaited;
     let id = read32(frame, 0);
-    let found = link_state::find_link(links, id);
+    let found = find_place(links, id);
     let heard = station::receive(links, area, frame);
     let heard_links = heard.links;
     let answer = heard.answer;
@@ -263,4 +271,20 @@ pub fn import_line(
         Decoded::NotHexadecimal => take_other(tray, number, line, output),
         Decoded::TooLong => take_frame(tray, area, number, &frame[..], output),
     }
+}
+
+// The line of a socket that was opened and has had no record line since; no text for any other. After the last line of input.
+pub fn missing_line(tray: Tray, socket: Socket, output: &mut [u8]) -> TextWritten
+    ensures { λ r. ⌜ (r ≡ textWritten (missingText tray socket) (now (output .entry)))
+        × (now (output .exit) ≡ textOutput (missingText tray socket) (now (output .entry))) ⌝ }
+{
+    let awaited = tray.awaited;
+    if socket.is_one_of(8) {
+        let place = socket.0 as usize - 1;
+        if awaited[place] {
+            return stock_record::write_missing(socket, output);
+        }
+        return TextWritten::Text(0);
+    }
+    TextWritten::Text(0)
 }
