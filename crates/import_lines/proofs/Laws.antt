@@ -29,8 +29,8 @@ use Rattle.links.specs.declared.Link.{Link}
 use Rattle.links.specs.declared.Found.{Found}
 use Rattle.links.specs.declared.Found.the-variants.{At, Nowhere}
 use Rattle.links.proofs.Lens.{found-at}
-use Rattle.stock_record.specs.Texts.{textWritten, textOutput}
-use Rattle.stock_record.specs.declared.TextWritten.the-variants.{Text}
+use Rattle.line_fields.specs.Lines.{textWritten, textOutput}
+use Rattle.line_fields.specs.declared.TextWritten.the-variants.{Text}
 use Rattle.import_lines.specs.Lines.{isFrame, beginsOpening, socketIn, idIn, stationOf, refusedStep, openedStep, frameStep, otherStep}
 use Rattle.import_lines.specs.Steps.{FoundWithin}
 use Rattle.import_lines.specs.declared.Tray.{Tray}

@@ -8,7 +8,7 @@ use lib.ListN.{length}
 use Rattle.octets.specs.Parts.{write}
 use Rattle.links.specs.declared.Found.{Found}
 use Rattle.links.specs.declared.Found.the-variants.{At, Nowhere}
-use Rattle.stock_record.specs.declared.TextWritten.the-variants.{Text, OutputTooShort}
+use Rattle.line_fields.specs.declared.TextWritten.the-variants.{Text, OutputTooShort}
 use Rattle.import_lines.specs.Lines.{Step}
 use Rattle.import_lines.specs.declared.Tray.{Tray}
 use Rattle.import_lines.specs.declared.Imported.{Imported}

@@ -6,7 +6,7 @@ use links::Refusal;
 use provisioning::Message;
 use provisioning::MessageRefusal;
 ghost use mathlib.Core.Path.{_≡_};
-ghost use Prim.Native.Nat.{_*_, _<_, min};
+ghost use Prim.Native.Nat.{min};
 ghost use Rattle.octets.specs.Parts.{part};
 ghost use Rattle.links.specs.Links.{refusalNumber};
 ghost use Rattle.provisioning.specs.Message.{messageRead, refusalNumber as messageRefusalNumber};
@@ -74,12 +74,11 @@ fn smaller(a: usize, b: usize) -> usize
     if a <= b { a } else { b }
 }
 
-// The message of so many octets that stands at the start of a socket's part; of fewer where the area ends before.
-pub fn message_at(area: &[u8], place: usize, count: u16) -> Message
-    requires { ⌜ place < 8 ⌝ }
-    ensures { λ r. ⌜ r ≡ messageRead (part (now (area .entry)) (1469 * place) count) ⌝ }
+// The message in so many octets from a place on; in fewer where the area ends before.
+pub fn message_in(area: &[u8], from: usize, count: usize) -> Message
+    ensures { λ r. ⌜ r ≡ messageRead (part (now (area .entry)) from count) ⌝ }
 {
-    let from = smaller(1469 * place, area.len());
-    let n = smaller(count as usize, area.len() - from);
-    provisioning::read_message(&area[from..from + n])
+    let start = smaller(from, area.len());
+    let n = smaller(count, area.len() - start);
+    provisioning::read_message(&area[start..start + n])
 }

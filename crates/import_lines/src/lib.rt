@@ -2,13 +2,13 @@
 mod answers;
 mod steps;
 
+use line_fields::TextWritten;
 use links::Link;
 use pb_adv::TransactionNumber;
 use provisioning::Capabilities;
 pub use steps::import_line;
 pub use steps::missing_line;
 pub use steps::new_tray;
-use stock_record::TextWritten;
 
 // The link records of a tray, and for each socket whether it was opened and has had no record line since.
 pub struct Tray {
@@ -16,7 +16,8 @@ pub struct Tray {
     pub awaited: [bool; 8],
 }
 
-// The tray after a line, and the length of the line's text, 0 for none, which stands at the start of the output.
+// The tray after a line, and the length of its text, 0 for none, which stands at the start of the output. Refusal 11 where the output has fewer
+// than MOST octets: then nothing has changed.
 pub struct Imported {
     pub tray: Tray,
     pub answer: TextWritten,
@@ -38,3 +39,6 @@ pub enum Reading {
     Refused(u8),
     Other,
 }
+
+// An output of so many octets has room for any line.
+pub const MOST: usize = 231;

@@ -3,10 +3,11 @@ use super::Imported;
 use super::Outcome;
 use super::Reading;
 use super::Tray;
-use super::answers::message_at;
+use super::answers::message_in;
 use super::answers::outcome_of;
 use super::answers::reading_of;
 use hex::Decoded;
+use line_fields::TextWritten;
 use links::Found;
 use links::Link;
 use octets::octet_at;
@@ -14,7 +15,6 @@ use octets::read32;
 use pb_adv::Socket;
 use pb_adv::TransactionNumber;
 use provisioning::Message;
-use stock_record::TextWritten;
 ghost use mathlib.Core.Bool.{true, false};
 ghost use mathlib.Core.List.{[]};
 ghost use mathlib.Core.Path.{_≡_};
@@ -24,7 +24,7 @@ ghost use Rattle.pb_adv.specs.Frame.{linkId};
 ghost use Rattle.links.specs.Links.{blank, find};
 ghost use Rattle.links.specs.Station.{received};
 ghost use Rattle.links.specs.declared.Side.the-variants.{Provisioner};
-ghost use Rattle.stock_record.specs.Texts.{textWritten, textOutput};
+ghost use Rattle.line_fields.specs.Lines.{textWritten, textOutput};
 ghost use Rattle.import_lines.specs.Lines.{stepTo, trayOf, stationOf, withAwaited, refusedStep, openedStep, messageStep, deliveredAt, frameStep, beginsOpening, otherStep, lineStep, lineArea, missingText};
 ghost use Rattle.import_lines.specs.Steps.{stepped, importedOf, areaAfter, outputAfter, Does, FoundWithin};
 
@@ -148,7 +148,7 @@ fn take_delivery(
 {
     match found {
         Found::At(place) => {
-            let message = message_at(area, place, count);
+            let message = message_in(area, 1469 * place, count as usize);
             take_message(tray, number, place, id, transaction, message, output)
         }
         Found::Nowhere => write_nothing(tray),

@@ -19,9 +19,10 @@ use Rattle.provisioning.specs.Promises.{messageOctets}
 use Rattle.provisioning.specs.declared.Capabilities.{Capabilities}
 use Rattle.provisioning.specs.declared.Message.the-variants as M
 use Rattle.provisioning.proofs.Promises.{capabilities-in-place, fields-are-octets}
-use Rattle.stock_record.specs.Texts.{digitsUpTo, decimalOf, hexadecimalOf, fieldText, endBefore, lineOf, recordFields, recordLine, textWritten, textOutput}
-use Rattle.stock_record.specs.Promises.{Imported, RecordLosesNothing, RefusalKeeps}
-use Rattle.stock_record.specs.declared.Field.{Field}
+use Rattle.line_fields.specs.Lines.{digitsUpTo, decimalOf, hexadecimalOf, fieldText, endBefore, lineOf}
+use Rattle.stock_record.specs.Texts.{recordFields, recordLine}
+use Rattle.stock_record.specs.Promises.{Imported, RecordLosesNothing}
+use Rattle.line_fields.specs.declared.Field.{Field}
 
 -- ---- texts of characters above the comma and the newline
 
@@ -257,9 +258,3 @@ module _ (x y : Imported) (h : recordLine (x .socket) (x .id) (x .number) (x .ca
 
 pub record-loses-nothing : RecordLosesNothing
 record-loses-nothing x y h = (same-octets x y h, same-socket x y h, same-id x y h, same-number x y h)
-
-pub refusal-keeps : RefusalKeeps
-unfolding textWritten textOutput
-refusal-keeps text output n =
-    cases (leb (length text) (length output))
-    (λ e. rw e (λ q. let z : _≡_ {A = ℕ} 0 1 = cc in absurd (omega arith))) (λ e. rw e (λ q. refl))

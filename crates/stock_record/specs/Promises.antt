@@ -1,16 +1,14 @@
 -- What is promised of the lines beyond their contracts. The proofs are `proofs/Promises.antt`.
-use Prim.Native.Nat.{ℕ, _<_, _≤_}
+use Prim.Native.Nat.{ℕ, _<_}
 use mathlib.Core.List.{List}
 use mathlib.Core.Path.{_≡_}
-use lib.ListN.{length}
 use Rattle.octets.specs.Numbers.{Octets}
-use Rattle.octets.specs.Told.{refused}
 use Rattle.pb_adv.specs.declared.Socket.{Socket}
 use Rattle.pb_adv.specs.declared.TransactionNumber.{TransactionNumber}
 use Rattle.provisioning.specs.Message.{messageRead}
 use Rattle.provisioning.specs.declared.Capabilities.{Capabilities}
 use Rattle.provisioning.specs.declared.Message.the-variants as M
-use Rattle.stock_record.specs.Texts.{recordLine, told, textWritten, textOutput}
+use Rattle.stock_record.specs.Texts.{recordLine}
 
 -- a Capabilities message that the reader accepts, and where it came from
 pub record Imported : Type 0 where
@@ -31,7 +29,3 @@ lineFor x = recordLine (x .socket) (x .id) (x .number) (x .capabilities)
 abbrev pub RecordLosesNothing : Type 0
 RecordLosesNothing =
     (x y : Imported) → lineFor x ≡ lineFor y → (x .octets ≡ y .octets) × (x .socket ≡ y .socket) × (x .id ≡ y .id) × (x .number ≡ y .number)
-
--- a refusal leaves the output as it was
-abbrev pub RefusalKeeps : Type 0
-RefusalKeeps = (text output : List ℕ) (n : ℕ) → told (textWritten text output) ≡ refused n → textOutput text output ≡ output

@@ -1,4 +1,6 @@
+use Prim.Native.Nat.{_<_}
 use mathlib.Core.Path.{sym, subst}
+use native.Mathlib.Omega.{arith}
 use Rattle.octets.proofs.Parts.{write-nothing}
 use Rattle.import_lines.specs.Lines.{deliveredAt}
 use Rattle.import_lines.specs.Steps.{FoundWithin}
@@ -9,11 +11,18 @@ use Rattle.import_lines.proofs.steps.take_delivery.Tie as tie
 enum-known-found : tie.Need-enum-known-found
 enum-known-found c = search needs
 
-message-at-requires : tie.Need-message-at-requires
-message-at-requires c κs = subst FoundWithin (c .before .found .given .1) (c .before .before .before .before .before .pre .0)
+-- the place that was found
+place : (c : tie.After-found) → c .found .given .0 .0 < 8
+place c = subst FoundWithin (c .found .given .1) (c .before .before .before .before .pre .0)
+
+mul-message-in : tie.Need-mul-message-in
+mul-message-in c = omega (arith, place (c .before))
+
+message-in-requires : tie.Need-message-in-requires
+message-in-requires c κs = search needs
 
 take-message-requires : tie.Need-take-message-requires
-take-message-requires c κs = (subst FoundWithin (c .before .before .before .found .given .1) (c .before .before .before .before .before .before .before .pre .0), c .before .before .before .before .before .before .before .pre .1)
+take-message-requires c κs = (place (c .before .before .before), c .before .before .before .before .before .before .before .pre .1)
 
 enum-told : tie.Need-enum-told
 enum-told c = search needs
@@ -26,7 +35,7 @@ same-length c = search needs
 
 returns : tie.Need-returns
 unfolding deliveredAt
-returns c = rw (c .before .before .before .before .before .before .found .given .1, ← (c .before .before .before .before .message-at .ensures)) (c .before .before .take-message .ensures)
+returns c = rw (c .before .before .before .before .before .before .found .given .1, ← (c .before .before .before .before .message-in .ensures)) (c .before .before .take-message .ensures)
 
 returns-2 : tie.Need-returns-2
 unfolding deliveredAt
@@ -37,7 +46,8 @@ take-delivery-spec =
     tie.close
     (tie.spec
     enum-known-found
-    message-at-requires
+    mul-message-in
+    message-in-requires
     take-message-requires
     enum-told
     write-nothing-requires
