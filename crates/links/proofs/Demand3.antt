@@ -139,6 +139,12 @@ module _ (side : Side) (σ₀ : Station) (message : ℕ → Message) (P : Premis
   unfolding getLink
   starts = record { count = refl; room = P .room; notBad = P .notBad; isOpen = λ s b. P .ready s b .isOpen; ids = λ s b. refl }
 
+  -- after any right calls, a link's Link ID still finds its socket
+  pub found-after : (cs : List Call) → All (Right side σ₀ message) cs → (s : ℕ) → s < length (σ₀ .links)
+      → find (after side σ₀ message cs .links) (linkOf side σ₀ message s .id) ≡ At s
+  found-after cs r s b =
+      found (after side σ₀ message cs) (after-ok socketOf (receive side σ₀ message) (length (σ₀ .links)) getLink atLink Ok (Right side σ₀ message) parts σ₀ cs starts r) s b
+
   -- ---- a link's own calls, as the numbers of their segments
   module _ (s : ℕ) where
     abbrev oneSegment : OneLink → ℕ → Answer × OneLink

@@ -1,0 +1,43 @@
+-- What is promised of the import step beyond its contracts. The proofs are `proofs/Promises.antt`.
+use Prim.Native.Nat.{ℕ, _≤_, _<_}
+use mathlib.Core.Bool.{Bool, true}
+use mathlib.Core.List.{List, _∷_, _++_}
+use mathlib.Core.Path.{_≡_}
+use lib.ListN.{length, getD}
+use Rattle.octets.specs.Numbers.{Octets, big16}
+use Rattle.hex.specs.Hex.{isHexadecimal, octetsOf as octetsIn}
+use Rattle.links.specs.Station.{Station}
+use Rattle.links.specs.Interleaving.{All}
+use Rattle.links.specs.Demand3.{Message, Call, Premises, Right, First, linkOf, octetsOf, frameOf, after}
+use Rattle.links.specs.declared.Side.the-variants.{Provisioner}
+use Rattle.provisioning.specs.Message.{messageRead}
+use Rattle.provisioning.specs.declared.Capabilities.{Capabilities}
+use Rattle.provisioning.specs.declared.Message.the-variants as M
+use Rattle.stock_record.specs.Texts.{recordLine}
+use Rattle.import_lines.specs.Lines.{lineStep, trayOf, socketAt}
+
+-- the fields that the octets of a Capabilities message have at their places
+abbrev pub fieldsOf : List ℕ → Capabilities
+fieldsOf m = record {
+  elements = getD m 1 0;
+  algorithms = big16 m 2;
+  «public_key_type» = getD m 4 0;
+  «static_oob_type» = getD m 5 0;
+  «output_oob_size» = getD m 6 0;
+  «output_oob_action» = big16 m 7;
+  «input_oob_size» = getD m 9 0;
+  «input_oob_action» = big16 m 10;
+}
+
+-- THE WHOLE WAY, from the frames of a tray to a stock record: under demand 3's premises, the line of the frame by which a Capabilities message is
+-- whole writes that message's record, whatever lines came before for this and other sockets: its socket, its link's Link ID, its number, and each
+-- field from its own octets
+abbrev pub WholeWay : Type 0
+WholeWay =
+    (σ : Station) (message : ℕ → Message) → Premises Provisioner σ message
+    → (cs : List Call) → All (Right Provisioner σ message) cs
+    → (pre : List Call) (c : Call) (post : List Call) → cs ≡ pre ++ (c ∷ post) → First Provisioner σ message pre c
+    → (capabilities : Capabilities) → messageRead (octetsOf Provisioner σ message (c .socket)) ≡ M.Capabilities capabilities
+    → (awaited : List Bool) (number : ℕ) (line : List ℕ) → isHexadecimal line ≡ true → octetsIn line ≡ frameOf Provisioner σ message c
+    → lineStep (trayOf (after Provisioner σ message pre .links) awaited) (after Provisioner σ message pre .area) number line .text
+    ≡ recordLine (socketAt (c .socket)) (linkOf Provisioner σ message (c .socket) .id) (message (c .socket) .number) (fieldsOf (octetsOf Provisioner σ message (c .socket)))

@@ -1,0 +1,160 @@
+-- Laws of the lines: a text that is copied whole, decimal digits, and a line field by field.
+use Prim.Native.Nat.{ℕ, zero, suc, _+_, _*_, _-_, _/_, _%_, _^_, _≤_, _<_, min}
+use native.Mathlib.Nat.{zero-add, sub-zero, pow-zero, pow-succ', one-le-pow}
+use native.Mathlib.Numerals.{add-one}
+use native.Mathlib.Omega.{arith}
+use mathlib.Core.Bool.{true, false, cond}
+use mathlib.Core.List.{List, [], _∷_, _++_, append-assoc}
+use mathlib.Core.Path.{_≡_, refl, sym, ap, _∙_}
+use lib.Dec.{leb, eqb, ltb}
+use lib.ListN.{length, take, drop, getD, length-append, length-drop, drop-of-length-le}
+use lib.Seq.{drop-cons, take-length, take-all}
+use borrow.Author.Tests.{le-leb, lt-leb, lt-ltb, eq-eqb, ne-eqb, leb-true, leb-false, eqb-true, eqb-false}
+use Rattle.octets.specs.Parts.{write, copyFits, copied}
+use Rattle.octets.proofs.Parts.{copied-part, write-front, write-length, write-next, write-nothing}
+use Rattle.octets.proofs.Tests.{cases}
+use Rattle.hex.specs.Hex.{textOf, encodedOutput}
+use Rattle.hex.proofs.Laws.{length-text}
+use Rattle.io.specs.Digits.{glyph, digits, Fewest}
+use Rattle.line_fields.specs.Lines.{digitsUpTo, decimalOf, hexadecimalOf, fieldText, endBefore, lineOf, textWritten, textOutput, told}
+use Rattle.line_fields.specs.declared.Field.{Field}
+use Rattle.line_fields.specs.declared.TextWritten.the-variants.{Text, OutputTooShort}
+
+-- ---- a text copied whole
+
+pub copied-whole : (l : List ℕ) (at : ℕ) (x : List ℕ) → at + length x ≤ length l → copied l at x 0 (length x) ≡ write l at x
+copied-whole l at x h = copied-part l at x 0 (length x) h (omega arith) ∙ rw (take-length x)
+
+module _ (text output : List ℕ) where
+  pub text-fits : copyFits output 0 text 0 (length text) ≡ leb (length text) (length output)
+  text-fits =
+      rw (sub-zero (length output), sub-zero (length text), le-leb 0 (length output) (omega arith), le-leb 0 (length text) (omega arith), le-leb (length text) (length text) (omega arith))
+      (cases (leb (length text) (length output)) (λ e. rw e) (λ e. rw e))
+
+  pub text-copied : copied output 0 text 0 (length text) ≡ textOutput text output
+  unfolding copied textOutput
+  text-copied = rw (text-fits, take-length text)
+
+-- `0x`, and the digits of octets behind it
+pub hexadecimal-put : (octets line : List ℕ) (at : ℕ) → at + 2 + 2 * length octets ≤ length line
+    → encodedOutput octets (write line at (48 ∷ 120 ∷ [])) (at + 2) ≡ write line at (hexadecimalOf octets)
+unfolding encodedOutput
+hexadecimal-put octets line at h =
+    let l = write line at (48 ∷ 120 ∷ []) in
+    let long = write-length line at (48 ∷ 120 ∷ []) (omega arith) in
+    rw (le-leb (at + 2) (length l) (omega arith), le-leb (2 * length octets) (length l - (at + 2)) (omega arith))
+    (write-next line at (48 ∷ 120 ∷ []) (textOf octets) (omega arith))
+
+-- ---- decimal digits
+
+glyph-small : (d : ℕ) → d < 10 → glyph d ≡ 48 + d
+glyph-small d h = rw (lt-ltb d 10 h)
+
+no-digits : (most : ℕ) → digitsUpTo most 0 ≡ []
+no-digits zero = refl
+no-digits (suc most) = refl
+
+tenth : (k n : ℕ) → 10 ^ k ≤ n → 0 < k → 10 ^ (k - 1) ≤ n / 10
+tenth zero n h p = absurd (omega arith)
+tenth (suc k) n h p = let e : suc k - 1 ≡ k = omega arith in rw e (omega (arith, pow-succ' 10 k))
+
+-- a first digit that is not 0
+first-digit : (k n : ℕ) → (0 < suc k → 10 ^ (suc k - 1) ≤ n) → (10 ^ k ≤ n) × (1 ≤ n)
+first-digit k n low =
+    let e : suc k - 1 ≡ k = omega arith in
+    let l : 10 ^ k ≤ n = rw e at (low (omega arith)) in
+    (l, omega (arith, one-le-pow k 10 (omega arith)))
+
+-- k digits, the first not 0, are all digits
+digits-all : (k most n : ℕ) → n < 10 ^ k → (0 < k → 10 ^ (k - 1) ≤ n) → n ≤ most → digits 10 k n ≡ digitsUpTo most n
+digits-all zero most n high low fits = let z : n ≡ 0 = omega (arith, pow-zero 10) in rw (z, no-digits most)
+digits-all (suc k) zero n high low fits = absurd (omega (arith, first-digit k n low))
+digits-all (suc k) (suc most) n high low fits =
+    let l = first-digit k n low in
+    rw (ne-eqb n 0 (λ z. absurd (omega arith)), glyph-small (n % 10) (omega arith))
+    (ap (λ (r : List ℕ). r ++ ((48 + n % 10) ∷ [])) (digits-all k most (n / 10) (omega (arith, pow-succ' 10 k)) (tenth k n (l .0)) (omega arith)))
+
+-- the fewest digits of a number are its decimal text
+pub decimal-digits : (n k : ℕ) → Fewest 10 1 n k → digits 10 k n ≡ decimalOf n
+unfolding decimalOf
+decimal-digits n zero f = absurd (omega (arith, f .0))
+decimal-digits n (suc zero) f =
+    cases (leb n 0) (λ e. let z : n ≡ 0 = omega (arith, leb-true n 0 e) in rw z)
+    (λ e. let some : 1 ≤ n = leb-false n 0 e in
+    rw (ne-eqb n 0 (λ z. absurd (omega arith))) (digits-all 1 n n (f .1) (λ p. some) (omega arith)))
+decimal-digits n (suc (suc k)) f =
+    let l = first-digit (suc k) n (λ p. f .2 (omega arith)) in
+    rw (ne-eqb n 0 (λ z. absurd (omega arith))) (digits-all (suc (suc k)) n n (f .1) (λ p. f .2 (omega arith)) (omega arith))
+
+-- a number of so many digits has no more of them
+digits-long : (k most n : ℕ) → n < 10 ^ k → length (digitsUpTo most n) ≤ k
+digits-long k zero n h = omega arith
+digits-long zero (suc most) n h = let z : n ≡ 0 = omega (arith, pow-zero 10) in rw z (omega arith)
+digits-long (suc k) (suc most) n h =
+    cases (eqb n 0) (λ e. rw e (omega arith))
+    (λ e. rw e (omega (arith, length-append (digitsUpTo most (n / 10)) ((48 + n % 10) ∷ []), digits-long k most (n / 10) (omega (arith, pow-succ' 10 k)))))
+
+pub decimal-long : (k n : ℕ) → 1 ≤ k → n < 10 ^ k → length (decimalOf n) ≤ k
+unfolding decimalOf
+decimal-long k n some h = cases (eqb n 0) (λ e. rw e (omega arith)) (λ e. rw e (digits-long k n n h))
+
+-- ---- a line, field by field
+
+ends-at : (fs : List Field) (j : ℕ) (d : Field) → endBefore (drop j fs) ≡ cond (leb (length fs) j) 10 44
+ends-at fs j d =
+    cases (leb (length fs) j) (λ e. rw (e, drop-of-length-le fs (leb-true (length fs) j e)))
+    (λ e. rw (e, drop-cons fs j d (leb-false (length fs) j e)))
+
+pub line-step : (fs : List Field) (i : ℕ) (d : Field) → i < length fs
+    → lineOf (drop i fs) ≡ (fieldText (getD fs i d) ++ (cond (leb (length fs) (i + 1)) 10 44 ∷ [])) ++ lineOf (drop (i + 1) fs)
+unfolding lineOf
+line-step fs i d h =
+    rw (add-one i, drop-cons fs i d h, ends-at fs (suc i) d)
+    (sym (append-assoc (fieldText (getD fs i d)) (cond (leb (length fs) (suc i)) 10 44 ∷ []) (lineOf (drop (suc i) fs))))
+
+pub line-end : lineOf [] ≡ []
+unfolding lineOf
+line-end = refl
+
+module _ (fs : List Field) (first line : List ℕ) (at i : ℕ) where
+  -- what is to be written from the field at place i on
+  abbrev rest : List ℕ
+  rest = lineOf (drop i fs)
+
+  -- a line of which the fields before place i stand at its start: with the rest behind them it is whole
+  pub record Begun : Type 0 where
+    pub long : at + length rest ≡ length (lineOf fs)
+    pub whole : write line at rest ≡ write first 0 (lineOf fs)
+
+pub begun : (fs : List Field) (first : List ℕ) → Begun fs first first 0 0
+begun fs first = record { long = omega arith; whole = refl }
+
+-- one field more
+pub begun-next : (fs : List Field) (first line : List ℕ) (at i : ℕ) (d : Field) (next : ℕ) (after : List ℕ) → i < length fs
+    → let text = fieldText (getD fs i d) ++ (cond (leb (length fs) (i + 1)) 10 44 ∷ []) in
+    next ≡ at + length text → after ≡ write line at text → next ≤ length line → Begun fs first line at i → Begun fs first after next (i + 1)
+begun-next fs first line at i d next after h e q fits b =
+    let text = fieldText (getD fs i d) ++ (cond (leb (length fs) (i + 1)) 10 44 ∷ []) in
+    let more = lineOf (drop (i + 1) fs) in
+    let step : lineOf (drop i fs) ≡ text ++ more = line-step fs i d h in
+    record {
+      long = omega (arith, ap length step, length-append text more, b .long);
+      whole = rw (q, e) (write-next line at text more (omega arith) ∙ rw (← step) (b .whole));
+    }
+
+-- all fields
+pub begun-all : (fs : List Field) (first line : List ℕ) (at i : ℕ) → length fs ≤ i → at ≤ length first → Begun fs first line at i
+    → (at ≡ length (lineOf fs)) × (take at line ≡ lineOf fs)
+begun-all fs first line at i h room b =
+    let none : lineOf (drop i fs) ≡ [] = rw (drop-of-length-le fs h) line-end in
+    let long : at ≡ length (lineOf fs) = omega (arith, rw none at (b .long)) in
+    let whole : line ≡ write first 0 (lineOf fs) = sym (write-nothing line at) ∙ rw none at (b .whole) in
+    (long, rw (whole, long) (ap (λ (n : ℕ). take n (write first 0 (lineOf fs))) (sym (zero-add (length (lineOf fs)))) ∙ write-front first 0 (lineOf fs) (omega arith)))
+
+-- all fields, where more are asked for than there are
+pub take-few : (fs : List Field) (count most : ℕ) → length fs ≡ most → take (min count most) fs ≡ take count fs
+take-few fs count most e =
+    cases (leb count most) (λ p. let m : min count most ≡ count = omega (arith, leb-true count most p) in rw m)
+    (λ p. let b = leb-false count most p in
+    let m : min count most ≡ most = omega arith in
+    rw m (take-all most fs (omega arith) ∙ sym (take-all count fs (omega arith))))

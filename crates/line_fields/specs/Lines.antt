@@ -1,0 +1,101 @@
+-- A line of text: fields with a comma between them and a newline at the end. Characters are ASCII octets.
+use Prim.Native.Char.{code}
+use Prim.Native.Nat.{ℕ, zero, suc, _+_, _/_, _%_, _≤_}
+use Prim.Native.String.{String, charAt, len}
+use mathlib.Core.Bool.{cond}
+use mathlib.Core.List.{List, [], _∷_, _++_}
+use mathlib.Core.Path.{_≡_}
+use lib.Dec.{leb, eqb}
+use lib.ListN.{length}
+use Rattle.octets.specs.Numbers.{octets16, octets32}
+use Rattle.octets.specs.Parts.{write}
+use Rattle.octets.specs.Told.{Told, refused, answered}
+use Rattle.hex.specs.Hex.{textOf}
+use Rattle.provisioning.specs.Message.{told as messageTold}
+use Rattle.provisioning.specs.declared.Message.{Message}
+use Rattle.line_fields.specs.declared.Field.{Field}
+use Rattle.line_fields.specs.declared.Field.the-variants as F
+use Rattle.line_fields.specs.declared.TextWritten.{TextWritten}
+use Rattle.line_fields.specs.declared.TextWritten.the-variants.{Text, OutputTooShort}
+
+-- ---- texts
+
+-- n characters of a quoted text, from a place on
+abbrev pub charactersFrom : ℕ → ℕ → String → List ℕ
+charactersFrom zero at text = []
+charactersFrom (suc n) at text = code (charAt text at) ∷ charactersFrom n (suc at) text
+
+-- the characters of a quoted text
+abbrev pub ascii : String → List ℕ
+ascii text = charactersFrom (len text) 0 text
+
+-- the decimal digits of n, at most so many of them; 0 has none
+abbrev pub digitsUpTo : ℕ → ℕ → List ℕ
+digitsUpTo zero n = []
+digitsUpTo (suc most) n = cond (eqb n 0) [] (digitsUpTo most (n / 10) ++ ((48 + n % 10) ∷ []))
+
+-- A NUMBER IN DECIMAL: its digits, of which it has no more than its own value; `0` for 0
+unfoldable pub decimalOf : ℕ → List ℕ
+decimalOf n = cond (eqb n 0) (48 ∷ []) (digitsUpTo n n)
+
+-- octets as `0x` and capitals, at full width
+abbrev pub hexadecimalOf : List ℕ → List ℕ
+hexadecimalOf octets = 48 ∷ 120 ∷ textOf octets
+
+-- the last two decimal digits of a number
+abbrev pub twoDigits : ℕ → List ℕ
+twoDigits n = (48 + n / 10 % 10) ∷ (48 + n % 10) ∷ []
+
+abbrev pub word : Told → String
+word (refused n) = ""
+word (answered name values) = name
+
+-- the name of a message, as document 01 writes it
+unfoldable pub nameOf : Message → List ℕ
+nameOf message = ascii (word (messageTold message))
+
+-- ---- fields and lines
+
+unfoldable pub fieldText : Field → List ℕ
+fieldText (F.Mark character) = character ∷ []
+fieldText (F.Decimal n) = decimalOf n
+fieldText (F.Octet n) = hexadecimalOf (n ∷ [])
+fieldText (F.Pair n) = hexadecimalOf (octets16 n)
+fieldText (F.Number n) = hexadecimalOf (octets32 n)
+fieldText (F.Refusal n) = 33 ∷ twoDigits n
+fieldText (F.Name message) = nameOf message
+
+-- what stands behind a field: a comma before further ones, a newline behind the last
+abbrev pub endBefore : List Field → ℕ
+endBefore [] = 10
+endBefore (f ∷ fs) = 44
+
+-- A LINE of fields
+unfoldable pub lineOf : List Field → List ℕ
+lineOf [] = []
+lineOf (f ∷ fs) = fieldText f ++ (endBefore fs ∷ lineOf fs)
+
+-- ---- a text at the start of an output, or refusal 11
+
+-- document 01's number and values of an answer
+abbrev pub told : TextWritten → Told
+told (Text n) = answered "text" (n ∷ [])
+told OutputTooShort = refused 11
+
+-- the answer: the text's length, or refusal 11 where the output is shorter
+unfoldable pub textWritten : List ℕ → List ℕ → TextWritten
+textWritten text output = cond (leb (length text) (length output)) (Text (length text)) OutputTooShort
+
+-- the output after it: the text at its start and nothing after it changed, or as it was
+unfoldable pub textOutput : List ℕ → List ℕ → List ℕ
+textOutput text output = cond (leb (length text) (length output)) (write output 0 text) output
+
+-- ---- a field in a line
+
+-- room for any field and what stands behind it
+abbrev pub FieldAsks : List ℕ → ℕ → Type 0
+FieldAsks line at = at + 21 ≤ length line
+
+-- what the writing of a field's text at a place does: the place after it, the line, and that no field is longer than 20 characters
+abbrev pub FieldPut : List ℕ → ℕ → List ℕ → ℕ → List ℕ → Type 0
+FieldPut line at text next after = (next ≡ at + length text) × (after ≡ write line at text) × (next ≤ at + 20)
