@@ -5,7 +5,7 @@ use octets::read32;
 ghost use mathlib.Core.Path.{_≡_};
 ghost use Prim.Native.Nat.{_+_};
 ghost use Rattle.beacon.specs.Rules.{keyWrong, keyRule, outOfWindow, recoveryStep, ivRule};
-ghost use Rattle.beacon.specs.Beacons.{refusalNumber, refusing, unprovisioned, moved, secure, heard, atPhase, started, set};
+ghost use Rattle.beacon.specs.Beacons.{refusing, unprovisioned, moved, secure, heard, atPhase, started, set};
 
 // The IV index known, and whether the IV update is in progress.
 pub struct IvState {
@@ -58,24 +58,6 @@ pub enum BeaconRefusal {
     WrongKey,
     NotAllowed,
     OutOfWindow,
-}
-
-impl BeaconRefusal {
-    // Document 01's number of the refusal.
-    pub fn number(self) -> u8
-        ensures { λ r. ⌜ r ≡ refusalNumber self ⌝ }
-    {
-        match self {
-            BeaconRefusal::BadState => 14,
-            BeaconRefusal::Empty => 51,
-            BeaconRefusal::UnknownType => 52,
-            BeaconRefusal::WrongLength => 53,
-            BeaconRefusal::NotAuthentic => 54,
-            BeaconRefusal::WrongKey => 55,
-            BeaconRefusal::NotAllowed => 56,
-            BeaconRefusal::OutOfWindow => 57,
-        }
-    }
 }
 
 pub enum BeaconAnswer {

@@ -4,7 +4,7 @@ use libc::STDIN_FILENO;
 use libc::STDOUT_FILENO;
 ghost use mathlib.Core.Path.{_≡_};
 ghost use mathlib.Core.Bool.{true, false};
-ghost use Prim.Native.Nat.{_≤_};
+ghost use Prim.Native.Nat.{_+_, _≤_};
 ghost use lib.ListN.{length};
 ghost use Rattle.lines.specs.Streams.{Within, heldAfter, heldLine};
 
@@ -129,7 +129,8 @@ pub fn next_piece(streams: Streams, input: &mut [u8], output: &[u8]) -> Streams
 
 // Room for so much more text in the output: where there is less, what waits is written out.
 pub fn make_room(streams: Streams, output: &[u8], room: usize) -> Streams
-    ensures { λ r. ⌜ r .waiting ≤ length (now (output .entry)) ⌝ }
+    ensures { λ r. ⌜ (r .waiting ≤ length (now (output .entry)))
+        × (room ≤ length (now (output .entry)) → r .waiting + room ≤ length (now (output .entry))) ⌝ }
 {
     let waiting = streams.waiting;
     if output.len() < waiting {
@@ -143,17 +144,18 @@ pub fn make_room(streams: Streams, output: &[u8], room: usize) -> Streams
 
 // So much more text waits, which the program has put behind what waited.
 pub fn add_waiting(streams: Streams, output: &[u8], count: usize) -> Streams
-    ensures { λ r. ⌜ r .waiting ≤ length (now (output .entry)) ⌝ }
+    ensures { λ r. ⌜ (r .waiting ≤ length (now (output .entry)))
+        × (streams .waiting + count ≤ length (now (output .entry)) → r .waiting ≡ streams .waiting + count) ⌝ }
 {
-    let waiting = streams.waiting;
-    if output.len() < waiting {
+    let before = streams.waiting;
+    if output.len() < before {
         return flush(streams, output);
     }
-    if output.len() - waiting < count {
+    if output.len() - before < count {
         return streams;
     }
     let mut after = streams;
-    after.waiting = waiting + count;
+    after.waiting = before + count;
     after
 }
 

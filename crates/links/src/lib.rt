@@ -1,8 +1,6 @@
 // The link records of a station and the answers of its calls. The rules over them are specs/, the promises proofs/; the code that
 // runs them is the crate station.
 use pb_adv::TransactionNumber;
-ghost use mathlib.Core.Path.{_≡_};
-ghost use Rattle.links.specs.Links.{refusalNumber};
 
 // The end of the links that a record is of.
 pub enum Side {
@@ -93,28 +91,4 @@ pub enum Answer {
     },
     // A local Open or Close is done.
     Done,
-}
-
-impl Refusal {
-    // Document 01's number of the refusal.
-    pub fn number(self) -> u8
-        ensures { λ r. ⌜ r ≡ refusalNumber self ⌝ }
-    {
-        match self {
-            Refusal::Malformed => 1,
-            Refusal::UnknownOpcode => 2,
-            Refusal::UnknownLink => 3,
-            Refusal::NotOpen => 4,
-            Refusal::WrongDirection => 5,
-            Refusal::NotBegun => 6,
-            Refusal::Mismatch => 7,
-            Refusal::WrongCheck => 8,
-            Refusal::SocketInUse => 9,
-            Refusal::LinkIdInUse => 10,
-            Refusal::WrongArgument => 11,
-            Refusal::NotOutstanding => 12,
-            Refusal::Outstanding => 13,
-            Refusal::BadState => 14,
-        }
-    }
 }

@@ -2,8 +2,6 @@
 mod reading;
 
 pub use reading::read_message;
-ghost use mathlib.Core.Path.{_≡_};
-ghost use Rattle.provisioning.specs.Message.{refusalNumber};
 
 // A field of more than two octets, by its place in the message, the type octet at 0, and its length.
 pub struct Field {
@@ -59,19 +57,4 @@ pub enum Message {
     Complete,
     Failed { code: u8 },
     Refused(MessageRefusal),
-}
-
-impl MessageRefusal {
-    // Document 01's number of the refusal.
-    pub fn number(self) -> u8
-        ensures { λ r. ⌜ r ≡ refusalNumber self ⌝ }
-    {
-        match self {
-            MessageRefusal::Empty => 41,
-            MessageRefusal::Padding => 42,
-            MessageRefusal::UnknownType => 43,
-            MessageRefusal::WrongLength => 44,
-            MessageRefusal::Prohibited => 45,
-        }
-    }
 }

@@ -8,7 +8,7 @@ ghost use Prim.Native.Nat.{_+_, _-_, _≤_, min};
 ghost use lib.ListN.{length};
 ghost use Rattle.octets.specs.Writing.{written, outputAfter};
 ghost use Rattle.proxy.specs.Pieces.{isCut, lastPiece, firstOctet, pieceOctets, piecesCounted, isPiece, CutAsked, PieceAsked};
-ghost use Rattle.proxy.specs.Transfers.{refusalNumber, empty, isGood, setConnected, heldLength, isExpected, isLikeFirst, refusing, disconnecting, complete, added, joining, offered, pieceRead, isRefused, bufferAfter};
+ghost use Rattle.proxy.specs.Transfers.{empty, isGood, setConnected, heldLength, isExpected, isLikeFirst, refusing, disconnecting, complete, added, joining, offered, pieceRead, isRefused, bufferAfter};
 
 // The answer of the count of pieces.
 pub enum PieceCount {
@@ -48,24 +48,6 @@ pub enum PieceRefusal {
     UnexpectedTopBits,
     OtherType,
     TooLong,
-}
-
-impl PieceRefusal {
-    // Document 01's number of the refusal.
-    pub fn number(self) -> u8
-        ensures { λ r. ⌜ r ≡ refusalNumber self ⌝ }
-    {
-        match self {
-            PieceRefusal::WrongArgument => 11,
-            PieceRefusal::BadState => 14,
-            PieceRefusal::Disconnected => 26,
-            PieceRefusal::NoData => 21,
-            PieceRefusal::ReservedType => 22,
-            PieceRefusal::UnexpectedTopBits => 23,
-            PieceRefusal::OtherType => 24,
-            PieceRefusal::TooLong => 25,
-        }
-    }
 }
 
 pub enum PieceAnswer {

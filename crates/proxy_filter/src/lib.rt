@@ -8,7 +8,7 @@ ghost use Prim.Native.Nat.{suc, _≤_, _<_};
 ghost use lib.Dec.{eqb};
 ghost use lib.ListN.{length, take, drop};
 ghost use Rattle.proxy_filter.specs.Filters.{held, past, unused, holding, findFrom, isOn, allAllowed, allUnused, isGood};
-ghost use Rattle.proxy_filter.specs.Calls.{refusalNumber, new, appended, without, changed, changedAll, addresses, changeFor, isUnicast, statusOctets, reporting, refusing, requestOf, typeOf, changeOf, controlled, learned, passing, passAnswer};
+ghost use Rattle.proxy_filter.specs.Calls.{new, appended, without, changed, changedAll, addresses, changeFor, isUnicast, statusOctets, reporting, refusing, requestOf, typeOf, changeOf, controlled, learned, passing, passAnswer};
 
 pub enum FilterType {
     AcceptList,
@@ -46,22 +46,6 @@ pub enum FilterRefusal {
     WrongLength,
     UnknownType,
     NotUnicast,
-}
-
-impl FilterRefusal {
-    // Document 01's number of the refusal.
-    pub fn number(self) -> u8
-        ensures { λ r. ⌜ r ≡ refusalNumber self ⌝ }
-    {
-        match self {
-            FilterRefusal::BadState => 14,
-            FilterRefusal::Empty => 31,
-            FilterRefusal::UnknownOpcode => 32,
-            FilterRefusal::WrongLength => 33,
-            FilterRefusal::UnknownType => 34,
-            FilterRefusal::NotUnicast => 35,
-        }
-    }
 }
 
 // What a message asks for.

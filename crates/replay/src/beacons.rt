@@ -122,7 +122,7 @@ fn after_hearing(heard: Heard, beacon: &[u8], values: &mut [u8]) -> StateStep {
             let outcome = moved(revoke, values);
             keep(state, outcome)
         }
-        BeaconAnswer::Refused(r) => keep(state, Outcome::Refused(r.number())),
+        BeaconAnswer::Refused(r) => keep(state, Outcome::Refused(refusal_numbers::of_beacon(r))),
     }
 }
 

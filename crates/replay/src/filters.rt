@@ -100,7 +100,7 @@ fn status(kind: FilterType, count: u8, values: &mut [u8]) -> Outcome {
 fn outcome_of(answer: FilterAnswer, values: &mut [u8]) -> Outcome {
     match answer {
         FilterAnswer::Status { kind, count } => status(kind, count, values),
-        FilterAnswer::Refused(r) => Outcome::Refused(r.number()),
+        FilterAnswer::Refused(r) => Outcome::Refused(refusal_numbers::of_filter(r)),
     }
 }
 

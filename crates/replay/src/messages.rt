@@ -85,7 +85,7 @@ pub(super) fn read(x: &[u8], values: &mut [u8]) -> Outcome {
         Message::Data { encrypted, mic } => two_fields(7, encrypted, mic, values),
         Message::Complete => short(8, 0, 1, values),
         Message::Failed { code } => short(9, code, 2, values),
-        Message::Refused(r) => Outcome::Refused(r.number()),
+        Message::Refused(r) => Outcome::Refused(refusal_numbers::of_message(r)),
     }
 }
 

@@ -47,7 +47,7 @@ fn closed(reason: u8, values: &mut [u8]) -> Outcome {
 
 fn outcome_of(answer: Answer, values: &mut [u8]) -> Outcome {
     match answer {
-        Answer::Refused(r) => Outcome::Refused(r.number()),
+        Answer::Refused(r) => Outcome::Refused(refusal_numbers::of_station(r)),
         Answer::AcknowledgeAgain => letter(b'G'),
         Answer::Kept => letter(b'K'),
         Answer::Repeat => letter(b'R'),

@@ -2,8 +2,8 @@
 use crate::records;
 use octets::octet_at;
 use octets::read16;
-use proxy::ConnectAnswer;
-use proxy::Connected;
+use proxy::ConnectionAnswer;
+use proxy::ConnectionSet;
 use proxy::HalfTransfer;
 use proxy::PieceAnswer;
 use proxy::PieceCount;
@@ -77,14 +77,14 @@ pub(super) fn show(transfer: Transfer, values: &mut [u8]) -> Outcome {
     }
 }
 
-fn connect_outcome(answer: ConnectAnswer) -> Outcome {
+fn connect_outcome(answer: ConnectionAnswer) -> Outcome {
     match answer {
-        ConnectAnswer::Done => Outcome::Done,
-        ConnectAnswer::BadState => Outcome::Refused(14),
+        ConnectionAnswer::Done => Outcome::Done,
+        ConnectionAnswer::BadState => Outcome::Refused(14),
     }
 }
 
-fn after_connecting(connected: Connected) -> TransferStep {
+fn after_connecting(connected: ConnectionSet) -> TransferStep {
     let transfer = connected.transfer;
     let answer = connected.answer;
     keep(transfer, connect_outcome(answer))
@@ -104,7 +104,7 @@ fn piece_outcome(answer: PieceAnswer, values: &mut [u8]) -> Outcome {
                 count: 3,
             }
         }
-        PieceAnswer::Refused(r) => Outcome::Refused(r.number()),
+        PieceAnswer::Refused(r) => Outcome::Refused(refusal_numbers::of_piece(r)),
     }
 }
 
