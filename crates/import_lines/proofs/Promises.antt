@@ -7,6 +7,7 @@ use mathlib.Core.Path.{_≡_, refl, sym, ap, _∙_}
 use lib.ListN.{length, take, drop}
 use lib.Seq.{take-take}
 use Rattle.octets.specs.Parts.{part}
+use Rattle.octets.proofs.Tests.{cases}
 use Rattle.hex.specs.Hex.{isHexadecimal, octetsOf as octetsIn}
 use Rattle.hex.proofs.Laws.{length-octets}
 use Rattle.pb_adv.specs.Frame.{linkId, segmentOctets}
@@ -28,7 +29,8 @@ use Rattle.provisioning.specs.declared.Message.the-variants as M
 use Rattle.provisioning.proofs.Promises.{capabilities-in-place}
 use Rattle.stock_record.specs.Texts.{recordLine}
 use Rattle.import_lines.specs.Lines.{isFrame, socketAt, trayOf, stationOf, messageStep, deliveredAt, frameStep, lineStep}
-use Rattle.import_lines.specs.Promises.{fieldsOf, WholeWay}
+use Rattle.import_lines.specs.Promises.{fieldsOf, WholeWay, RefusalKeeps}
+use Rattle.import_lines.specs.Steps.{isEnough, importedOf, areaAfter, outputAfter}
 use Rattle.import_lines.specs.declared.Tray.{Tray}
 use Rattle.import_lines.proofs.Laws.{frame-line}
 
@@ -85,3 +87,8 @@ whole-way σ message P cs r pre c post split first capabilities accepted awaited
     ∙ rw next at (claim .stand pre c [] post split first) in
     rw (isFrame, same, frame-delivers (trayOf (τ .links) awaited) (τ .area) number f (length m) (message s .number) s (claim .due pre c post split first) found, stands, head .0)
     (record-written _ number s _ (message s .number) m capabilities accepted)
+
+pub refusal-keeps : RefusalKeeps
+unfolding importedOf areaAfter outputAfter
+refusal-keeps tray area number line output n =
+    cases (isEnough output) (λ e. rw e (λ q. let z : _≡_ {A = ℕ} 0 1 = cc in absurd (omega arith))) (λ e. rw e (λ q. (refl, refl, refl)))

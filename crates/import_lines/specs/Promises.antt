@@ -1,10 +1,11 @@
 -- What is promised of the import step beyond its contracts. The proofs are `proofs/Promises.antt`.
-use Prim.Native.Nat.{ℕ, _≤_, _<_}
+use Prim.Native.Nat.{ℕ}
 use mathlib.Core.Bool.{Bool, true}
 use mathlib.Core.List.{List, _∷_, _++_}
 use mathlib.Core.Path.{_≡_}
-use lib.ListN.{length, getD}
-use Rattle.octets.specs.Numbers.{Octets, big16}
+use lib.ListN.{getD}
+use Rattle.octets.specs.Numbers.{big16}
+use Rattle.octets.specs.Told.{refused}
 use Rattle.hex.specs.Hex.{isHexadecimal, octetsOf as octetsIn}
 use Rattle.links.specs.Station.{Station}
 use Rattle.links.specs.Interleaving.{All}
@@ -13,8 +14,11 @@ use Rattle.links.specs.declared.Side.the-variants.{Provisioner}
 use Rattle.provisioning.specs.Message.{messageRead}
 use Rattle.provisioning.specs.declared.Capabilities.{Capabilities}
 use Rattle.provisioning.specs.declared.Message.the-variants as M
+use Rattle.line_fields.specs.Lines.{told}
 use Rattle.stock_record.specs.Texts.{recordLine}
-use Rattle.import_lines.specs.Lines.{lineStep, trayOf, socketAt}
+use Rattle.import_lines.specs.Lines.{lineStep, lineArea, trayOf, socketAt}
+use Rattle.import_lines.specs.Steps.{importedOf, areaAfter, outputAfter}
+use Rattle.import_lines.specs.declared.Tray.{Tray}
 
 -- the fields that the octets of a Capabilities message have at their places
 abbrev pub fieldsOf : List ℕ → Capabilities
@@ -41,3 +45,11 @@ WholeWay =
     → (awaited : List Bool) (number : ℕ) (line : List ℕ) → isHexadecimal line ≡ true → octetsIn line ≡ frameOf Provisioner σ message c
     → lineStep (trayOf (after Provisioner σ message pre .links) awaited) (after Provisioner σ message pre .area) number line .text
     ≡ recordLine (socketAt (c .socket)) (linkOf Provisioner σ message (c .socket) .id) (message (c .socket) .number) (fieldsOf (octetsOf Provisioner σ message (c .socket)))
+
+-- a refusal for want of room leaves the tray, the area and the output as they were
+abbrev pub RefusalKeeps : Type 0
+RefusalKeeps =
+    (tray : Tray) (area : List ℕ) (number : ℕ) (line output : List ℕ) (n : ℕ) → told (importedOf tray (lineStep tray area number line) output .answer) ≡ refused n
+    → (importedOf tray (lineStep tray area number line) output .tray ≡ tray)
+    × (areaAfter area (lineArea tray area line) output ≡ area)
+    × (outputAfter (lineStep tray area number line) output ≡ output)
