@@ -1,8 +1,8 @@
 // Reads the log of a tray from standard input, a line for each opening and each frame heard, and writes a stock record for each module that
 // answers, to standard output.
 use import_lines::Tray;
-use line_fields::TextWritten;
 use lines::Streams;
+use octets::Written;
 use pb_adv::Socket;
 ghost use mathlib.Core.Path.{_≡_};
 ghost use Prim.Native.Nat.{_≤_};
@@ -28,13 +28,13 @@ fn next_number(number: u64) -> u64 {
 }
 
 // The text at the end of what waited waits too.
-fn waits(streams: Streams, answer: TextWritten, output: &[u8]) -> Streams
+fn waits(streams: Streams, answer: Written, output: &[u8]) -> Streams
     ensures { λ r. ⌜ r .waiting ≤ length (now (output .entry)) ⌝ }
 {
     match answer {
-        TextWritten::Text(n) => lines::add_waiting(streams, output, n),
+        Written::Count(n) => lines::add_waiting(streams, output, n),
         // Never: room was made for any text.
-        TextWritten::OutputTooShort => lines::make_room(streams, output, 0),
+        Written::WrongArgument => lines::make_room(streams, output, 0),
     }
 }
 

@@ -30,7 +30,8 @@ use Rattle.links.specs.declared.Found.{Found}
 use Rattle.links.specs.declared.Found.the-variants.{At, Nowhere}
 use Rattle.links.proofs.Lens.{found-at}
 use Rattle.line_fields.specs.Lines.{textWritten, textOutput}
-use Rattle.line_fields.specs.declared.TextWritten.the-variants.{Text}
+use Rattle.octets.specs.Writing.{written, outputAfter as textAfter}
+use Rattle.octets.specs.declared.Written.the-variants.{Count}
 use Rattle.import_lines.specs.Lines.{isFrame, beginsOpening, socketIn, idIn, stationOf, refusedStep, openedStep, frameStep, otherStep}
 use Rattle.import_lines.specs.Steps.{FoundWithin}
 use Rattle.import_lines.specs.declared.Tray.{Tray}
@@ -38,12 +39,12 @@ use Rattle.import_lines.specs.declared.Tray.{Tray}
 -- ---- a text that fits
 
 pub text-fits : (text output : List ℕ) → length text ≤ 231 → 231 ≤ length output
-    → (textWritten text output ≡ Text (length text)) × (textOutput text output ≡ write output 0 text)
-unfolding textWritten textOutput
+    → (textWritten text output ≡ Count (length text)) × (textOutput text output ≡ write output 0 text)
+unfolding written textAfter
 text-fits text output h room = rw (le-leb (length text) (length output) (omega arith)) (refl, refl)
 
-pub no-text : (output : List ℕ) → (Text 0 ≡ textWritten [] output) × (output ≡ textOutput [] output)
-unfolding textWritten textOutput
+pub no-text : (output : List ℕ) → (Count 0 ≡ textWritten [] output) × (output ≡ textOutput [] output)
+unfolding written textAfter
 no-text output = rw (le-leb 0 (length output) (omega arith)) (refl, sym (write-nothing output 0))
 
 -- ---- a part that may go past the end

@@ -14,7 +14,7 @@ use Rattle.links.specs.declared.Side.the-variants.{Provisioner}
 use Rattle.provisioning.specs.Message.{messageRead}
 use Rattle.provisioning.specs.declared.Capabilities.{Capabilities}
 use Rattle.provisioning.specs.declared.Message.the-variants as M
-use Rattle.line_fields.specs.Lines.{told}
+use Rattle.octets.specs.Writing.{told}
 use Rattle.stock_record.specs.Texts.{recordLine}
 use Rattle.import_lines.specs.Lines.{lineStep, lineArea, trayOf, socketAt}
 use Rattle.import_lines.specs.Steps.{importedOf, areaAfter, outputAfter}

@@ -8,7 +8,7 @@ use lib.ListN.{length}
 use Rattle.octets.specs.Parts.{write}
 use Rattle.links.specs.declared.Found.{Found}
 use Rattle.links.specs.declared.Found.the-variants.{At, Nowhere}
-use Rattle.line_fields.specs.declared.TextWritten.the-variants.{Text, OutputTooShort}
+use Rattle.octets.specs.declared.Written.the-variants.{Count, WrongArgument}
 use Rattle.import_lines.specs.Lines.{Step}
 use Rattle.import_lines.specs.declared.Tray.{Tray}
 use Rattle.import_lines.specs.declared.Imported.{Imported}
@@ -19,11 +19,11 @@ isEnough output = leb 231 (length output)
 
 -- the tray and the answer after a step
 abbrev pub stepped : Step → Imported
-stepped x = record { tray = x .tray; answer = Text (length (x .text)) }
+stepped x = record { tray = x .tray; answer = Count (length (x .text)) }
 
 -- refusal 11
 abbrev pub tooShort : Tray → Imported
-tooShort tray = record { tray = tray; answer = OutputTooShort }
+tooShort tray = record { tray = tray; answer = WrongArgument }
 
 -- a step from a tray, with an output that may be too short: what is handed back, the area and the output after it
 unfoldable pub importedOf : Tray → Step → List ℕ → Imported

@@ -2,8 +2,8 @@
 mod answers;
 mod steps;
 
-use line_fields::TextWritten;
 use links::Link;
+use octets::Written;
 use pb_adv::TransactionNumber;
 use provisioning::Capabilities;
 pub use steps::import_line;
@@ -20,7 +20,7 @@ pub struct Tray {
 // than MOST octets: then nothing has changed.
 pub struct Imported {
     pub tray: Tray,
-    pub answer: TextWritten,
+    pub answer: Written,
 }
 
 // What an answer of the station comes to. A refusal has document 01's number.

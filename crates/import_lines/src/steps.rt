@@ -7,9 +7,9 @@ use super::answers::message_in;
 use super::answers::outcome_of;
 use super::answers::reading_of;
 use hex::Decoded;
-use line_fields::TextWritten;
 use links::Found;
 use links::Link;
+use octets::Written;
 use octets::octet_at;
 use octets::read32;
 use pb_adv::Socket;
@@ -44,7 +44,7 @@ fn write_nothing(tray: Tray) -> Imported
 {
     Imported {
         tray: tray,
-        answer: TextWritten::Text(0),
+        answer: Written::Count(0),
     }
 }
 
@@ -256,7 +256,7 @@ pub fn import_line(
     if output.len() < 231 {
         return Imported {
             tray: tray,
-            answer: TextWritten::OutputTooShort,
+            answer: Written::WrongArgument,
         };
     }
     // One octet more than a frame has: a longer line is refused as one of 30 octets is.
@@ -274,7 +274,7 @@ pub fn import_line(
 }
 
 // The line of a socket that was opened and has had no record line since; no text for any other. After the last line of input.
-pub fn missing_line(tray: Tray, socket: Socket, output: &mut [u8]) -> TextWritten
+pub fn missing_line(tray: Tray, socket: Socket, output: &mut [u8]) -> Written
     ensures { λ r. ⌜ (r ≡ textWritten (missingText tray socket) (now (output .entry)))
         × (now (output .exit) ≡ textOutput (missingText tray socket) (now (output .entry))) ⌝ }
 {
@@ -284,7 +284,7 @@ pub fn missing_line(tray: Tray, socket: Socket, output: &mut [u8]) -> TextWritte
         if awaited[place] {
             return stock_record::write_missing(socket, output);
         }
-        return TextWritten::Text(0);
+        return Written::Count(0);
     }
-    TextWritten::Text(0)
+    Written::Count(0)
 }

@@ -16,9 +16,9 @@ use Rattle.octets.proofs.Tests.{cases}
 use Rattle.hex.specs.Hex.{textOf, encodedOutput}
 use Rattle.hex.proofs.Laws.{length-text}
 use Rattle.io.specs.Digits.{glyph, digits, Fewest}
-use Rattle.line_fields.specs.Lines.{digitsUpTo, decimalOf, hexadecimalOf, fieldText, endBefore, lineOf, textWritten, textOutput, told}
+use Rattle.octets.specs.Writing.{outputAfter}
+use Rattle.line_fields.specs.Lines.{digitsUpTo, decimalOf, hexadecimalOf, fieldText, endBefore, lineOf, textOutput}
 use Rattle.line_fields.specs.declared.Field.{Field}
-use Rattle.line_fields.specs.declared.TextWritten.the-variants.{Text, OutputTooShort}
 
 -- ---- a text copied whole
 
@@ -32,7 +32,7 @@ module _ (text output : List ℕ) where
       (cases (leb (length text) (length output)) (λ e. rw e) (λ e. rw e))
 
   pub text-copied : copied output 0 text 0 (length text) ≡ textOutput text output
-  unfolding copied textOutput
+  unfolding copied outputAfter
   text-copied = rw (text-fits, take-length text)
 
 -- `0x`, and the digits of octets behind it

@@ -2,21 +2,21 @@
 use Prim.Native.Char.{code}
 use Prim.Native.Nat.{ℕ, zero, suc, _+_, _/_, _%_, _≤_}
 use Prim.Native.String.{String, charAt, len}
-use mathlib.Core.Bool.{cond}
+use mathlib.Core.Bool.{true, cond}
 use mathlib.Core.List.{List, [], _∷_, _++_}
 use mathlib.Core.Path.{_≡_}
-use lib.Dec.{leb, eqb}
+use lib.Dec.{eqb}
 use lib.ListN.{length}
 use Rattle.octets.specs.Numbers.{octets16, octets32}
 use Rattle.octets.specs.Parts.{write}
 use Rattle.octets.specs.Told.{Told, refused, answered}
+use Rattle.octets.specs.Writing.{written, outputAfter}
+use Rattle.octets.specs.declared.Written.{Written}
 use Rattle.hex.specs.Hex.{textOf}
 use Rattle.provisioning.specs.Message.{told as messageTold}
 use Rattle.provisioning.specs.declared.Message.{Message}
 use Rattle.line_fields.specs.declared.Field.{Field}
 use Rattle.line_fields.specs.declared.Field.the-variants as F
-use Rattle.line_fields.specs.declared.TextWritten.{TextWritten}
-use Rattle.line_fields.specs.declared.TextWritten.the-variants.{Text, OutputTooShort}
 
 -- ---- texts
 
@@ -75,20 +75,13 @@ unfoldable pub lineOf : List Field → List ℕ
 lineOf [] = []
 lineOf (f ∷ fs) = fieldText f ++ (endBefore fs ∷ lineOf fs)
 
--- ---- a text at the start of an output, or refusal 11
+-- ---- a text at the start of an output, or refusal 11: as every writer
 
--- document 01's number and values of an answer
-abbrev pub told : TextWritten → Told
-told (Text n) = answered "text" (n ∷ [])
-told OutputTooShort = refused 11
+abbrev pub textWritten : List ℕ → List ℕ → Written
+textWritten text output = written true text output
 
--- the answer: the text's length, or refusal 11 where the output is shorter
-unfoldable pub textWritten : List ℕ → List ℕ → TextWritten
-textWritten text output = cond (leb (length text) (length output)) (Text (length text)) OutputTooShort
-
--- the output after it: the text at its start and nothing after it changed, or as it was
-unfoldable pub textOutput : List ℕ → List ℕ → List ℕ
-textOutput text output = cond (leb (length text) (length output)) (write output 0 text) output
+abbrev pub textOutput : List ℕ → List ℕ → List ℕ
+textOutput text output = outputAfter true text output
 
 -- ---- a field in a line
 

@@ -1,4 +1,5 @@
 // A line of text: fields with a comma between them and a newline at the end, written at the start of a lent output.
+use octets::Written;
 use provisioning::Message;
 ghost use mathlib.Core.Bool.{cond};
 ghost use mathlib.Core.List.{[], _∷_, _++_};
@@ -25,26 +26,18 @@ pub enum Field {
     Name(Message),
 }
 
-// The answer to the writing of a text.
-pub enum TextWritten {
-    // The length of the text, which stands at the start of the output.
-    Text(usize),
-    // Refusal 11: the output is shorter than the text, and as it was.
-    OutputTooShort,
-}
-
 // No line is longer: eleven fields of at most 20 characters, and the comma or newline behind each.
 pub const MOST: usize = 231;
 
 // A text at the start of the output, or refusal 11.
-pub fn write_text(text: &[u8], output: &mut [u8]) -> TextWritten
+pub fn write_text(text: &[u8], output: &mut [u8]) -> Written
     ensures { λ r. ⌜ (r ≡ textWritten (now (text .entry)) (now (output .entry)))
         × (now (output .exit) ≡ textOutput (now (text .entry)) (now (output .entry))) ⌝ }
 {
     if octets::copy(output, 0, text, 0, text.len()) {
-        TextWritten::Text(text.len())
+        Written::Count(text.len())
     } else {
-        TextWritten::OutputTooShort
+        Written::WrongArgument
     }
 }
 
@@ -171,7 +164,7 @@ fn at_most_eleven(count: usize) -> usize
 }
 
 // The line of the first fields. No line has more than the eleven of a record, and none of them more than 20 characters.
-pub fn write_fields(fields: [Field; 11], count: usize, output: &mut [u8]) -> TextWritten
+pub fn write_fields(fields: [Field; 11], count: usize, output: &mut [u8]) -> Written
     ensures { λ r. ⌜ (r ≡ textWritten (lineOf (take count fields)) (now (output .entry)))
         × (now (output .exit) ≡ textOutput (lineOf (take count fields)) (now (output .entry)))
         × (length (lineOf (take count fields)) ≤ 231) ⌝ }

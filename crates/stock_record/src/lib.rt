@@ -1,9 +1,9 @@
 // The lines of the import step: the header, stock records, other messages, refusals and missing records, each written at the start of a
 // lent output.
 use line_fields::Field;
-use line_fields::TextWritten;
 use line_fields::write_fields;
 use line_fields::write_text;
+use octets::Written;
 use pb_adv::Socket;
 use pb_adv::TransactionNumber;
 use provisioning::Capabilities;
@@ -15,7 +15,7 @@ ghost use Rattle.line_fields.specs.Lines.{textWritten, textOutput};
 ghost use Rattle.stock_record.specs.Texts.{headerLine, recordLine, otherLine, refusalLine, missingLine};
 
 // The first line of all.
-pub fn write_header(output: &mut [u8]) -> TextWritten
+pub fn write_header(output: &mut [u8]) -> Written
     ensures { λ r. ⌜ (r ≡ textWritten headerLine (now (output .entry)))
         × (now (output .exit) ≡ textOutput headerLine (now (output .entry)))
         × (length headerLine ≤ 231) ⌝ }
@@ -33,7 +33,7 @@ pub fn write_record(
     number: TransactionNumber,
     capabilities: Capabilities,
     output: &mut [u8],
-) -> TextWritten
+) -> Written
     ensures { λ r. ⌜ (r ≡ textWritten (recordLine socket id number capabilities) (now (output .entry)))
         × (now (output .exit) ≡ textOutput (recordLine socket id number capabilities) (now (output .entry)))
         × (length (recordLine socket id number capabilities) ≤ 231) ⌝ }
@@ -55,7 +55,7 @@ pub fn write_record(
 }
 
 // The line of a message of another kind, that an input line delivered.
-pub fn write_other(line: u64, message: Message, output: &mut [u8]) -> TextWritten
+pub fn write_other(line: u64, message: Message, output: &mut [u8]) -> Written
     ensures { λ r. ⌜ (r ≡ textWritten (otherLine line message) (now (output .entry)))
         × (now (output .exit) ≡ textOutput (otherLine line message) (now (output .entry)))
         × (length (otherLine line message) ≤ 231) ⌝ }
@@ -67,7 +67,7 @@ pub fn write_other(line: u64, message: Message, output: &mut [u8]) -> TextWritte
 }
 
 // The line of a refusal, by document 01's number, at an input line.
-pub fn write_refusal(refusal: u8, line: u64, output: &mut [u8]) -> TextWritten
+pub fn write_refusal(refusal: u8, line: u64, output: &mut [u8]) -> Written
     ensures { λ r. ⌜ (r ≡ textWritten (refusalLine refusal line) (now (output .entry)))
         × (now (output .exit) ≡ textOutput (refusalLine refusal line) (now (output .entry)))
         × (length (refusalLine refusal line) ≤ 231) ⌝ }
@@ -78,7 +78,7 @@ pub fn write_refusal(refusal: u8, line: u64, output: &mut [u8]) -> TextWritten
 }
 
 // The line of a socket that has no record.
-pub fn write_missing(socket: Socket, output: &mut [u8]) -> TextWritten
+pub fn write_missing(socket: Socket, output: &mut [u8]) -> Written
     ensures { λ r. ⌜ (r ≡ textWritten (missingLine socket) (now (output .entry)))
         × (now (output .exit) ≡ textOutput (missingLine socket) (now (output .entry)))
         × (length (missingLine socket) ≤ 231) ⌝ }

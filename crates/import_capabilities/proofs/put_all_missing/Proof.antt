@@ -1,42 +1,36 @@
+use borrow.Author.Needs.{needs}
+use Prim.Native.Nat.{_≤_, _-_}
+use lib.ListN.{length}
+use mathlib.Core.Path.{_≡_}
 use Rattle.import_capabilities.proofs.put_all_missing.Statement.{statement}
 use Rattle.import_capabilities.proofs.put_all_missing.Tie as tie
-use Rattle.import_capabilities.proofs.put_all_missing.Reads as reads
-use Rattle.import_capabilities.proofs.put_all_missing.Lts as lts
-use Rattle.import_capabilities.proofs.put_missing.Reads as put-missing-reads
 
 abbrev Inv-loop : tie.InvT-loop
-Inv-loop tray output₀ streams₀ socket₀ output streams socket = ?
+Inv-loop tray output₀ streams₀ socket₀ output streams socket = (socket ≤ 9) × (length output ≡ length output₀)
 
 abbrev μ-loop : tie.MeasureT-loop
-μ-loop tray output₀ streams₀ socket₀ output streams socket = ?
+μ-loop tray output₀ streams₀ socket₀ output streams socket = 9 - socket
 
--- src/main.rt:162:5
 loop-holds : tie.Need-loop-holds Inv-loop μ-loop
-loop-holds c = ?
+loop-holds c = search needs
 
--- src/main.rt:163:9
 put-missing-requires : tie.Need-put-missing-requires Inv-loop μ-loop
-put-missing-requires c κs = ?
+put-missing-requires c κs = search needs
 
--- src/main.rt:164:9
 add-socket : tie.Need-add-socket Inv-loop μ-loop
-add-socket c = ?
+add-socket c = search needs
 
--- src/main.rt:162:5
 loop-less : tie.Need-loop-less Inv-loop μ-loop
-loop-less c = ?
+loop-less c = search needs
 
--- src/main.rt:162:5
 loop-again : tie.Need-loop-again Inv-loop μ-loop
-loop-again c = ?
+loop-again c = search needs
 
--- src/main.rt:159:1
 same-length : tie.Need-same-length Inv-loop μ-loop
-same-length c = ?
+same-length c = search needs
 
--- src/main.rt:159:1
 returns : tie.Need-returns Inv-loop μ-loop
-returns c = ?
+returns c = search needs
 
 pub put-all-missing-spec : {M : Type 1} → statement M
 put-all-missing-spec =

@@ -1,6 +1,6 @@
 use mathlib.Core.Path.{sym, _∙_}
 use Rattle.line_fields.proofs.Laws.{text-fits, text-copied}
-use Rattle.line_fields.specs.Lines.{textWritten}
+use Rattle.octets.specs.Writing.{written}
 use borrow.Author.Needs.{needs}
 use Rattle.line_fields.proofs.write_text.Statement.{statement}
 use Rattle.line_fields.proofs.write_text.Tie as tie
@@ -12,7 +12,7 @@ same-length : tie.Need-same-length
 same-length c = search needs
 
 returns : tie.Need-returns
-unfolding textWritten
+unfolding written
 returns c =
     let k = c .before .before .before .copy in
     (rw (← (text-fits _ _), ← (k .ensures .0), c .if1 .taken), k .ensures .1 ∙ text-copied _ _)
@@ -21,7 +21,7 @@ same-length-2 : tie.Need-same-length-2
 same-length-2 c = search needs
 
 returns-2 : tie.Need-returns-2
-unfolding textWritten
+unfolding written
 returns-2 c =
     let k = c .before .before .before .copy in
     (rw (← (text-fits _ _), ← (k .ensures .0), c .if1 .left), k .ensures .1 ∙ text-copied _ _)

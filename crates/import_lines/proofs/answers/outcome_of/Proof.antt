@@ -33,14 +33,14 @@ nothing A.Done h = refl
 enum-known-answer : tie.Need-enum-known-answer
 enum-known-answer c = search needs
 
-refusal-number-requires : tie.Need-refusal-number-requires
-refusal-number-requires c κs = search needs
+of-station-requires : tie.Need-of-station-requires
+of-station-requires c κs = search needs
 
 enum-known-answer-2 : tie.Need-enum-known-answer-2
 enum-known-answer-2 c = search needs
 
 returns : tie.Need-returns
-returns c = simp (c .before .before .answer .given .1, c .refusal-number .ensures)
+returns c = simp (c .before .before .answer .given .1, c .of-station .ensures)
 
 returns-2 : tie.Need-returns-2
 returns-2 c = simp (c .before .answer2 .given .1)
@@ -53,7 +53,7 @@ outcome-of-spec =
     tie.close
     (tie.spec
     enum-known-answer
-    refusal-number-requires
+    of-station-requires
     enum-known-answer-2
     returns
     returns-2

@@ -36,14 +36,14 @@ enum-known-message c = search needs
 enum-known-message-2 : tie.Need-enum-known-message-2
 enum-known-message-2 c = search needs
 
-message-refusal-number-requires : tie.Need-message-refusal-number-requires
-message-refusal-number-requires c κs = search needs
+of-message-requires : tie.Need-of-message-requires
+of-message-requires c κs = search needs
 
 returns : tie.Need-returns
 returns c = simp (c .before .message .given .1)
 
 returns-2 : tie.Need-returns-2
-returns-2 c = simp (c .before .before .message2 .given .1, c .message-refusal-number .ensures)
+returns-2 c = simp (c .before .before .message2 .given .1, c .of-message .ensures)
 
 returns-3 : tie.Need-returns-3
 returns-3 c = other (c .before .args .message) (c .match .keys3)
@@ -54,7 +54,7 @@ reading-of-spec =
     (tie.spec
     enum-known-message
     enum-known-message-2
-    message-refusal-number-requires
+    of-message-requires
     returns
     returns-2
     returns-3)

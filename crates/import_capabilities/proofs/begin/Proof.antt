@@ -1,4 +1,0 @@
-use Rattle.import_capabilities.proofs.begin.Statement.{statement}
-
-pub begin-spec : {M : Type 1} → statement M
-begin-spec 𝓤 H 𝓜 𝓖 𝓡 = ?

@@ -1,0 +1,88 @@
+use borrow.Author.Needs.{needs}
+use lib.ListN.{length}
+use mathlib.Core.Path.{_≡_}
+use Rattle.import_capabilities.specs.Progress.{Kept}
+use Rattle.import_capabilities.proofs.run.Statement.{statement}
+use Rattle.import_capabilities.proofs.run.Tie as tie
+
+abbrev Inv-loop : tie.InvT-loop
+Inv-loop input₀ line₀ area₀ output₀ progress₀ turns₀ input line area output progress turns =
+    (length input ≡ length input₀)
+    × (length line ≡ length line₀)
+    × (length area ≡ length area₀)
+    × (length output ≡ length output₀)
+    × Kept progress line output
+
+abbrev μ-loop : tie.MeasureT-loop
+μ-loop input₀ line₀ area₀ output₀ progress₀ turns₀ input line area output progress turns = turns
+
+begin-requires : tie.Need-begin-requires Inv-loop μ-loop
+begin-requires c κs = search needs
+
+loop-holds : tie.Need-loop-holds Inv-loop μ-loop
+loop-holds c = search needs
+
+take-turn-requires : tie.Need-take-turn-requires Inv-loop μ-loop
+take-turn-requires c κs = search needs
+
+sub-turns : tie.Need-sub-turns Inv-loop μ-loop
+sub-turns c = search needs
+
+loop-less : tie.Need-loop-less Inv-loop μ-loop
+loop-less c = search needs
+
+loop-again : tie.Need-loop-again Inv-loop μ-loop
+loop-again c = search needs
+
+loop-less-2 : tie.Need-loop-less-2 Inv-loop μ-loop
+loop-less-2 c = search needs
+
+loop-again-2 : tie.Need-loop-again-2 Inv-loop μ-loop
+loop-again-2 c = search needs
+
+end-input-requires : tie.Need-end-input-requires Inv-loop μ-loop
+end-input-requires c κs = search needs
+
+put-all-missing-requires : tie.Need-put-all-missing-requires Inv-loop μ-loop
+put-all-missing-requires c κs = search needs
+
+flush-requires : tie.Need-flush-requires Inv-loop μ-loop
+flush-requires c κs = search needs
+
+same-length : tie.Need-same-length Inv-loop μ-loop
+same-length c = search needs
+
+same-length-2 : tie.Need-same-length-2 Inv-loop μ-loop
+same-length-2 c = search needs
+
+same-length-3 : tie.Need-same-length-3 Inv-loop μ-loop
+same-length-3 c = search needs
+
+same-length-4 : tie.Need-same-length-4 Inv-loop μ-loop
+same-length-4 c = search needs
+
+returns : tie.Need-returns Inv-loop μ-loop
+returns c = search needs
+
+pub run-spec : {M : Type 1} → statement M
+run-spec =
+    tie.close
+    (tie.spec
+    Inv-loop
+    μ-loop
+    begin-requires
+    loop-holds
+    take-turn-requires
+    sub-turns
+    loop-less
+    loop-again
+    loop-less-2
+    loop-again-2
+    end-input-requires
+    put-all-missing-requires
+    flush-requires
+    same-length
+    same-length-2
+    same-length-3
+    same-length-4
+    returns)
