@@ -1,5 +1,8 @@
 // Beacons, and the key and IV state.
 use crate::records;
+use crate::values::put8;
+use crate::values::put16;
+use crate::values::put32;
 use beacon::BeaconAnswer;
 use beacon::Hash;
 use beacon::Heard;
@@ -12,9 +15,6 @@ use beacon::Subnet;
 use octets::octet_at;
 use octets::read32;
 use script::Outcome;
-use script::put8;
-use script::put16;
-use script::put32;
 
 // The state after an operation, and what it came to.
 pub(super) struct StateStep {

@@ -1,4 +1,6 @@
 // The proxy filter.
+use crate::values::put8;
+use crate::values::put16;
 use octets::octet_at;
 use octets::read16;
 use proxy_filter::Entry;
@@ -8,8 +10,6 @@ use proxy_filter::FilterStep;
 use proxy_filter::FilterType;
 use proxy_filter::PassAnswer;
 use script::Outcome;
-use script::put8;
-use script::put16;
 
 // The filter after an operation, and what it came to.
 pub(super) struct FilterOutcome {

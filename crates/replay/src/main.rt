@@ -7,6 +7,7 @@ mod records;
 mod station_calls;
 mod storages;
 mod transfers;
+mod values;
 mod writers;
 
 use beacon::IvState;
@@ -150,7 +151,7 @@ fn hash_all(held: Held, storages: &[u8], values: &mut [u8]) -> Outcome {
         return Outcome::Malformed;
     }
     let h = script::hash(state, &storages[0..VIEW]);
-    script::put32(values, 0, h);
+    values::put32(values, 0, h);
     Outcome::Values {
         letter: b'H',
         count: 4,

@@ -1,4 +1,6 @@
 // Provisioning messages read whole, and the view over a message.
+use crate::values::put8;
+use crate::values::put16;
 use message_view::FieldRead;
 use message_view::Step;
 use message_view::Wanted;
@@ -8,8 +10,6 @@ use provisioning::Choice;
 use provisioning::Field;
 use provisioning::Message;
 use script::Outcome;
-use script::put8;
-use script::put16;
 
 fn outcome(count: usize) -> Outcome {
     Outcome::Values {

@@ -1,5 +1,8 @@
 // The operations that set and show the link records. A record is 22 octets: its use, Link ID, next sending number, whether it is outstanding,
 // the last delivered number, and the half-received message with its marks.
+use crate::values::put8;
+use crate::values::put16;
+use crate::values::put32;
 use links::HalfMessage;
 use links::HalfReceived;
 use links::LastDelivered;
@@ -10,9 +13,6 @@ use octets::read16;
 use octets::read32;
 use pb_adv::TransactionNumber;
 use script::Outcome;
-use script::put8;
-use script::put16;
-use script::put32;
 
 // The records after an operation, and what it came to.
 pub(super) struct Records {

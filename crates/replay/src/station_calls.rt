@@ -1,5 +1,7 @@
 // The calls of the station.
 use crate::records::Records;
+use crate::values::put8;
+use crate::values::put16;
 use links::Answer;
 use links::Link;
 use octets::octet_at;
@@ -8,8 +10,6 @@ use octets::read32;
 use pb_adv::Socket;
 use pb_adv::TransactionNumber;
 use script::Outcome;
-use script::put8;
-use script::put16;
 use station::Received;
 
 fn letter(letter: u8) -> Outcome {

@@ -1,4 +1,5 @@
 // The operations of a storage: fill, write, show and hash.
+use crate::values::put32;
 use octets::octet_at;
 use octets::read16;
 use script::Outcome;
@@ -52,7 +53,7 @@ fn hash(x: &[u8], storage: &[u8], values: &mut [u8]) -> Outcome {
     if x.len() != 0 {
         return Outcome::Malformed;
     }
-    script::put32(values, 0, script::hash(1, storage));
+    put32(values, 0, script::hash(1, storage));
     Outcome::Values {
         letter: b'H',
         count: 4,

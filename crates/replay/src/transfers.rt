@@ -1,5 +1,7 @@
 // The proxy transfer.
 use crate::records;
+use crate::values::put8;
+use crate::values::put16;
 use octets::octet_at;
 use octets::read16;
 use proxy::ConnectionAnswer;
@@ -9,8 +11,6 @@ use proxy::PieceAnswer;
 use proxy::PieceCount;
 use proxy::Transfer;
 use script::Outcome;
-use script::put8;
-use script::put16;
 
 // The transfer after an operation, and what it came to.
 pub(super) struct TransferStep {

@@ -1,12 +1,12 @@
 // The writers of frames and of proxy pieces, the check octet and SegN.
+use crate::values::put8;
+use crate::values::put16;
 use octets::Written;
 use octets::octet_at;
 use octets::read16;
 use octets::read32;
 use pb_adv::TransactionNumber;
 use script::Outcome;
-use script::put8;
-use script::put16;
 
 // What a writer wrote: its length, and the octets from the start of the output.
 fn outcome_of(written: Written, output: &[u8], values: &mut [u8]) -> Outcome {

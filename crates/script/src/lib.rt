@@ -4,11 +4,8 @@ use hex::Decoded;
 use octets::Written;
 ghost use mathlib.Core.Path.{_≡_};
 ghost use mathlib.Core.Bool.{true};
-ghost use mathlib.Core.List.{[], _∷_};
 ghost use Prim.Native.Nat.{_≤_};
 ghost use lib.ListN.{length};
-ghost use Rattle.octets.specs.Numbers.{octets16, octets32};
-ghost use Rattle.octets.specs.Parts.{copied};
 ghost use Rattle.octets.specs.Writing.{written, outputAfter};
 ghost use Rattle.script.specs.Script.{capitals, isLine, argumentsOf, argumentsRead, argumentsAfter, answerLine, outcomeLine, hashStep, hashFrom};
 
@@ -138,32 +135,4 @@ pub fn hash(before: u32, octets: &[u8]) -> u32
         i += 1;
     }
     h
-}
-
-// Puts a number of one octet at a place of the output; where it does not fit, nothing is put.
-pub fn put8(output: &mut [u8], at: usize, number: u8)
-    ensures { λ r. ⌜ now (output .exit) ≡ copied (now (output .entry)) at (number ∷ []) 0 1 ⌝ }
-{
-    octets::copy(output, at, &[number], 0, 1);
-}
-
-// Of two octets.
-pub fn put16(output: &mut [u8], at: usize, number: u16)
-    ensures { λ r. ⌜ now (output .exit) ≡ copied (now (output .entry)) at (octets16 number) 0 2 ⌝ }
-{
-    let number_octets = [(number / 256) as u8, (number % 256) as u8];
-    octets::copy(output, at, &number_octets, 0, 2);
-}
-
-// Of four octets.
-pub fn put32(output: &mut [u8], at: usize, number: u32)
-    ensures { λ r. ⌜ now (output .exit) ≡ copied (now (output .entry)) at (octets32 number) 0 4 ⌝ }
-{
-    let number_octets = [
-        (number / 16777216) as u8,
-        (number / 65536 % 256) as u8,
-        (number / 256 % 256) as u8,
-        (number % 256) as u8,
-    ];
-    octets::copy(output, at, &number_octets, 0, 4);
 }
