@@ -20,7 +20,11 @@ struct Progress {
 }
 
 fn next_number(number: u64) -> u64 {
-    if number < u64::MAX { number + 1 } else { number }
+    if number < u64::MAX {
+        number + 1
+    } else {
+        number
+    }
 }
 
 // The text at the end of what waited waits too.
