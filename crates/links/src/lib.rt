@@ -1,5 +1,5 @@
 // The link records of a station and the answers of its calls. The rules over them are specs/, the promises proofs/; the code that
-// runs them is the crates station and local_calls.
+// runs them is in the crates local_calls and station.
 use pb_adv::TransactionNumber;
 ghost use mathlib.Core.Path.{_≡_};
 ghost use Rattle.links.specs.Links.{refusalNumber};
