@@ -33,7 +33,7 @@ pub fn new_tray() -> Tray
     ensures { λ r. ⌜ r ≡ trayOf (replicate 8 (blank Provisioner)) (replicate 8 false) ⌝ }
 {
     Tray {
-        links: station::blank_links(),
+        links: local_calls::blank_links(),
         awaited: [false; 8],
     }
 }
@@ -79,7 +79,7 @@ fn open_socket(tray: Tray, number: u64, socket: Socket, id: u32, output: &mut [u
 {
     let links = tray.links;
     let awaited = tray.awaited;
-    let opened = station::open(links, socket, id);
+    let opened = local_calls::open(links, socket, id);
     let opened_links = opened.links;
     let answer = opened.answer;
     let after = Tray {

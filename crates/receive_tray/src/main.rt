@@ -68,7 +68,7 @@ fn bring(tray: Tray, area: &mut [u8], frame: &[u8], length: usize) -> Tray {
 fn open_link(tray: Tray, area: &mut [u8], socket: u8) -> Tray {
     let links = tray.links;
     let tally = tray.tally;
-    let r = station::open(links, Socket(socket), id_of(socket));
+    let r = local_calls::open(links, Socket(socket), id_of(socket));
     let after = r.links;
     let opening = Tray {
         links: after,
@@ -190,7 +190,7 @@ fn main() {
     // Socket 1's message stands at 1,469: place 0 is of no socket.
     let mut messages = [0u8; 13221];
     fill(&mut messages);
-    let links = station::blank_links();
+    let links = local_calls::blank_links();
     let tally = Tally {
         opened: 0,
         kept: 0,

@@ -57,7 +57,7 @@ fn at_start() -> Held {
         length: 0,
         place: 0,
     };
-    let links = station::blank_links();
+    let links = local_calls::blank_links();
     let transfer = proxy::new_transfer();
     let filter = Filter::new();
     Held {

@@ -2,6 +2,7 @@
 use crate::records::Records;
 use crate::values::put8;
 use crate::values::put16;
+use link_records::Received;
 use links::Answer;
 use links::Link;
 use octets::octet_at;
@@ -10,7 +11,6 @@ use octets::read32;
 use pb_adv::Socket;
 use pb_adv::TransactionNumber;
 use script::Outcome;
-use station::Received;
 
 fn letter(letter: u8) -> Outcome {
     Outcome::Values {
@@ -103,7 +103,7 @@ fn open(links: [Link; 8], x: &[u8], values: &mut [u8]) -> Records {
     if x.len() != 5 {
         return malformed(links);
     }
-    let received = station::open(links, Socket(octet_at(x, 0)), read32(x, 1));
+    let received = local_calls::open(links, Socket(octet_at(x, 0)), read32(x, 1));
     after(received, values)
 }
 
@@ -111,7 +111,7 @@ fn send(links: [Link; 8], x: &[u8], values: &mut [u8]) -> Records {
     if x.len() != 3 {
         return malformed(links);
     }
-    let received = station::send(links, Socket(octet_at(x, 0)), read16(x, 1) as usize);
+    let received = local_calls::send(links, Socket(octet_at(x, 0)), read16(x, 1) as usize);
     after(received, values)
 }
 
@@ -119,7 +119,7 @@ fn close(links: [Link; 8], x: &[u8], values: &mut [u8]) -> Records {
     if x.len() != 1 {
         return malformed(links);
     }
-    let received = station::close(links, Socket(octet_at(x, 0)));
+    let received = local_calls::close(links, Socket(octet_at(x, 0)));
     after(received, values)
 }
 

@@ -9,7 +9,7 @@ use denote.Enum.Declared.{tagOf}
 use lib.Dec.{eqb}
 use lib.ListN.{length, take, drop, getD, length-take, length-drop}
 use lib.Seq.{drop-drop}
-use borrow.Author.Tests.{le-leb, leb-true, eq-eqb, ne-eqb}
+use borrow.Author.Tests.{le-leb, eq-eqb, ne-eqb}
 use Rattle.octets.specs.Parts.{part, write, same, samePart}
 use Rattle.octets.proofs.Parts.{part-length, same-part-fits}
 use Rattle.octets.proofs.Tests.{cases, both-hold}
@@ -17,21 +17,19 @@ use Rattle.octets.specs.Cut.{piece}
 use Rattle.fcs.specs.Fcs.{checkOctet}
 use Rattle.pb_adv.proofs.Parsed.{the-type}
 use Rattle.pb_adv.specs.Frame.{parsed}
-use Rattle.pb_adv.specs.Numbers.{isSocket}
 use Rattle.pb_adv.specs.Promises.{Fits, IsEncoding}
-use Rattle.pb_adv.specs.Segments.{isLength, segN, segmentPlace, segmentLength}
+use Rattle.pb_adv.specs.Segments.{segN, segmentPlace, segmentLength}
 use Rattle.pb_adv.proofs.Laws.{segment-begins}
 use Rattle.pb_adv.specs.declared.SegmentHeader.{SegmentHeader}
 use Rattle.pb_adv.specs.declared.SegmentHeader.the-variants.{Start, Continuation}
 use Rattle.pb_adv.specs.declared.Segment.{Segment}
-use Rattle.pb_adv.specs.declared.Socket.{Socket}
 use Rattle.pb_adv.specs.declared.Parsed.{Parsed}
 use Rattle.pb_adv.specs.declared.Parsed.the-variants as P
 use Rattle.links.specs.Marks.{isMarked, withMark, allMarked}
-use Rattle.links.specs.Links.{sends, withSending, find}
+use Rattle.links.specs.Links.{sends, find}
 use Rattle.links.specs.Good.{good, goodHalf, goodAs, goodLink, atRest, isNothing, isEmpty}
 use Rattle.links.specs.Segments.{OneLink, marked, entered, offered}
-use Rattle.links.specs.Station.{Station, noLink, getLink, putLink, acknowledgementStep, frameStep, atSocket, onFrame, received, isOpen, linkAt, withLink, localSend}
+use Rattle.links.specs.Station.{Station, noLink, getLink, putLink, acknowledgementStep, frameStep, atSocket, onFrame, received}
 use Rattle.links.proofs.Keep.{message-out, open-out}
 use Rattle.links.proofs.Lens.{found-at, good-out, all-at, put-get}
 use Rattle.links.specs.declared.Side.the-variants.{Provisioner}
@@ -48,7 +46,7 @@ use Rattle.links.specs.declared.Refusal.the-variants as R
 use Rattle.links.specs.declared.Answer.{Answer}
 use Rattle.links.specs.declared.Answer.the-variants as A
 use Rattle.station.specs.Calls.{stationOf, receiving, oneLink, steppedOf, receivedOf}
-use Rattle.station.specs.Steps.{completed, compared, EnterAsks, segmentTaken, stored, atFound, NoSegment, otherStep, otherAt, otherFrame, InRange, CallAsks}
+use Rattle.station.specs.Steps.{completed, compared, EnterAsks, segmentTaken, steppedAt, atFound, NoSegment, otherStep, otherAt, otherFrame, InRange}
 
 -- ---- a segment that goes to a message
 
@@ -109,7 +107,7 @@ module _ (links : List Link) (area f : List ℕ) (s : Segment) (place n : ℕ) (
   abbrev taken : Answer × OneLink
   taken = segmentTaken (getD links place noLink) (take n (drop (1469 * place) area)) f s
 
-  pub socket-stored : stored links place (steppedOf taken) ≡ receivedOf (atFound links area f s (At place))
+  pub socket-stored : steppedAt links place (steppedOf taken) ≡ receivedOf (atFound links area f s (At place))
   unfolding getLink putLink
   socket-stored = rw e
 
@@ -192,10 +190,10 @@ module _ (l : Link) (a f : List ℕ) where
 
 module _ (links : List Link) (area f : List ℕ) (p : Parsed) (h : NoSegment p) where
   pub other-at : (s : ℕ) → receivedOf (atSocket Provisioner (stationOf links area) (At s) f p)
-      ≡ stored links s (steppedOf (otherStep (getD links s noLink) (getD links s noLink .state) p))
+      ≡ steppedAt links s (steppedOf (otherStep (getD links s noLink) (getD links s noLink .state) p))
   unfolding getLink putLink
   other-at s =
-      ap (stored links s) (other-same (getD links s noLink) (part area (1469 * s) 1469) f (getD links s noLink .state) p h .0)
+      ap (steppedAt links s) (other-same (getD links s noLink) (part area (1469 * s) 1469) f (getD links s noLink .state) p h .0)
 
   other-area : (s : ℕ) → 1469 * suc s ≤ length area → atSocket Provisioner (stationOf links area) (At s) f p .1 .area ≡ area
   unfolding getLink putLink
@@ -236,22 +234,3 @@ module _ (links : List Link) (area f : List ℕ) (n : length links ≡ 8) where
   pub received-frame : length area ≡ 11752 → good Provisioner links ≡ true → receiving links area f ≡ onFrame Provisioner (stationOf links area) f (parsed f)
   unfolding received
   received-frame h g = rw (n, eq-eqb (length area) 11752 h, g)
-
--- ---- local calls
-
-pub socket-in : (s : Socket) (n : ℕ) → 1 ≤ s .0 → s .0 ≤ n → isSocket s n ≡ true
-socket-in s n low high = rw (le-leb 1 (s .0) low, le-leb (s .0) n high)
-
-pub socket-out : (s : Socket) (n : ℕ) → isSocket s n ≡ true → (1 ≤ s .0) × (s .0 ≤ n)
-socket-out s n e = let p = both-hold e in (leb-true 1 (s .0) (p .0), leb-true (s .0) n (p .1))
-
-pub length-out : (n : ℕ) → isLength n ≡ true → (1 ≤ n) × (n ≤ 1469)
-length-out n e = let p = both-hold e in (leb-true 1 n (p .0), leb-true n 1469 (p .1))
-
--- a message that may be sent
-pub sends-on : (links : List Link) (s : Socket) (n : ℕ) → length links ≡ 8 → CallAsks links s → 1 ≤ n → n ≤ 1469 → isOpen (linkAt links s .state) ≡ true
-    → linkAt links s .outstanding ≡ false
-    → localSend Provisioner links s n ≡ (A.Sending (linkAt links s .next) (segN n), withLink links s (withSending (linkAt links s) (linkAt links s .next) true))
-unfolding localSend
-sends-on links s n l q some few o m =
-    rw (l, socket-in s 8 (q .low) (q .high), le-leb 1 n some, le-leb n 1469 few, q .state, o, m)

@@ -1,4 +1,4 @@
--- The calls of an eight-socket station, as the provisioner's end: the rules of `links` over its records and the lent area.
+-- The receiving call of an eight-socket station, as the provisioner's end: the rules of `links` over its records and the lent area.
 use Prim.Native.Nat.{ℕ}
 use mathlib.Core.List.{List}
 use Rattle.links.specs.Segments.{OneLink}
@@ -6,7 +6,7 @@ use Rattle.links.specs.Station.{Station, received}
 use Rattle.links.specs.declared.Side.the-variants.{Provisioner}
 use Rattle.links.specs.declared.Link.{Link}
 use Rattle.links.specs.declared.Answer.{Answer}
-use Rattle.station.specs.declared.Received.{Received}
+use Rattle.link_records.specs.declared.Received.{Received}
 use Rattle.station.specs.declared.Stepped.{Stepped}
 
 -- the records and the lent area together
@@ -20,10 +20,6 @@ receiving links area f = received Provisioner (stationOf links area) f
 -- the records and the answer that a receiving call hands back
 abbrev pub receivedOf : Answer × Station → Received
 receivedOf r = record { links = r .1 .links; answer = r .0 }
-
--- those of a local call
-abbrev pub calledOf : Answer × List Link → Received
-calledOf r = record { links = r .1; answer = r .0 }
 
 -- one link with its socket's part of the area, and the record and the answer after a step of it
 abbrev pub oneLink : Link → List ℕ → OneLink

@@ -4,14 +4,13 @@ use mathlib.Core.Bool.{true, cond}
 use mathlib.Core.List.{List, []}
 use mathlib.Core.Path.{_≡_}
 use lib.Dec.{eqb}
-use lib.ListN.{length, take, set}
+use lib.ListN.{length, take}
 use Rattle.octets.specs.Parts.{part, samePart}
 use Rattle.fcs.specs.Fcs.{checkOctet}
 use Rattle.pb_adv.specs.Promises.{Fits}
 use Rattle.pb_adv.specs.Segments.{segN, segmentPlace, segmentLength}
 use Rattle.pb_adv.specs.declared.SegmentHeader.{SegmentHeader}
 use Rattle.pb_adv.specs.declared.Segment.{Segment}
-use Rattle.pb_adv.specs.declared.Socket.{Socket}
 use Rattle.pb_adv.specs.declared.Parsed.{Parsed}
 use Rattle.pb_adv.specs.declared.Parsed.the-variants as P
 use Rattle.links.specs.Marks.{allMarked}
@@ -31,22 +30,20 @@ use Rattle.links.specs.declared.Refusal.{Refusal}
 use Rattle.links.specs.declared.Refusal.the-variants as R
 use Rattle.links.specs.declared.Answer.{Answer}
 use Rattle.links.specs.declared.Answer.the-variants as A
+use Rattle.link_records.specs.Records.{stored}
+use Rattle.link_records.specs.declared.Received.{Received}
 use Rattle.station.specs.Calls.{stationOf, oneLink, receivedOf}
-use Rattle.station.specs.declared.Received.{Received}
 use Rattle.station.specs.declared.Stepped.{Stepped}
 
 -- ---- what is handed back
 
 -- a refusal, and nothing changed
-abbrev pub callRefused : List Link → Refusal → Received
-callRefused links r = record { links = links; answer = A.Refused r }
-
 abbrev pub linkRefused : Link → Refusal → Stepped
 linkRefused link r = record { link = link; answer = A.Refused r }
 
 -- the records and the answer after a step of the link at place s
-abbrev pub stored : List Link → ℕ → Stepped → Received
-stored links s r = record { links = set links s (r .link); answer = r .answer }
+abbrev pub steppedAt : List Link → ℕ → Stepped → Received
+steppedAt links s r = stored links s (r .link) (r .answer)
 
 -- ---- a segment that goes to a message
 
@@ -144,10 +141,3 @@ pub record SocketAsks (links : List Link) (area f : List ℕ) (s : Segment) : Ty
 
 abbrev pub atFound : List Link → List ℕ → List ℕ → Segment → Found → Answer × Station
 atFound links area f s found = atSocket Provisioner (stationOf links area) found f (P.Segment s)
-
--- ---- a local call at a socket
-
-pub record CallAsks (links : List Link) (s : Socket) : Type 0 where
-  pub low : 1 ≤ s .0
-  pub high : s .0 ≤ 8
-  pub state : good Provisioner links ≡ true

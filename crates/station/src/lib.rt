@@ -1,4 +1,10 @@
-// The station: eight sockets, the provisioner's end. Each call takes the eight link records by value and hands them back.
+// The station's receiving call: eight sockets, the provisioner's end. It takes the eight link records by value and hands them back.
+use link_records::Received;
+use link_records::blank_with;
+use link_records::link_at;
+use link_records::refuse_call;
+use link_records::store;
+use link_records::with_sending;
 use links::Answer;
 use links::Found;
 use links::HalfMessage;
@@ -12,43 +18,25 @@ use pb_adv::FrameRefusal;
 use pb_adv::Parsed;
 use pb_adv::Segment;
 use pb_adv::SegmentHeader;
-use pb_adv::Socket;
 use pb_adv::TransactionNumber;
-ghost use Prim.Native.Nat.{_-_, _≤_, _<_};
+ghost use Prim.Native.Nat.{_≤_, _<_};
 ghost use mathlib.Core.List.{[]};
 ghost use mathlib.Core.Path.{_≡_};
-ghost use lib.ListN.{length, getD, replicate};
-ghost use Rattle.pb_adv.specs.Segments.{isLength};
+ghost use lib.ListN.{length};
 ghost use Rattle.pb_adv.specs.declared.SegmentHeader.the-variants.{Start, Continuation};
-ghost use Rattle.links.specs.Links.{blank, blankWith, withState, withReceived, withSending, find};
+ghost use Rattle.links.specs.Links.{withState, withReceived, find};
 ghost use Rattle.links.specs.Segments.{begun, marked};
-ghost use Rattle.links.specs.Station.{noLink, acknowledgementStep, frameRefusal, localOpen, localSend, localClose};
+ghost use Rattle.links.specs.Station.{acknowledgementStep, frameRefusal};
 ghost use Rattle.links.specs.declared.Side.the-variants.{Provisioner};
 ghost use Rattle.links.specs.declared.LinkState.the-variants.{Opening, Open};
 ghost use Rattle.links.specs.declared.Found.the-variants.{At};
-ghost use Rattle.station.specs.Calls.{receiving, receivedOf, calledOf, oneLink, steppedOf};
-ghost use Rattle.station.specs.Steps.{callRefused, linkRefused, stored, completed, compared, enteredFrom, offeredFrom, begunFrom, OfferAsks, EnterAsks, SegmentAsks, byHeader, segmentSteps, segmentTaken, NoSegment, otherStep, otherAt, otherFrame, SocketAsks, atFound, CallAsks};
-
-// The records after a call, and its answer.
-pub struct Received {
-    pub links: [Link; 8],
-    pub answer: Answer,
-}
+ghost use Rattle.station.specs.Calls.{receiving, receivedOf, oneLink, steppedOf};
+ghost use Rattle.station.specs.Steps.{linkRefused, completed, compared, enteredFrom, offeredFrom, begunFrom, OfferAsks, EnterAsks, SegmentAsks, byHeader, segmentSteps, segmentTaken, NoSegment, otherStep, otherAt, otherFrame, SocketAsks, atFound};
 
 // One record after a step of its link, and the answer.
 pub struct Stepped {
     pub link: Link,
     pub answer: Answer,
-}
-
-// The records as they were, and a refusal.
-fn refuse_call(links: [Link; 8], refusal: Refusal) -> Received
-    ensures { λ r. ⌜ r ≡ callRefused links refusal ⌝ }
-{
-    Received {
-        links: links,
-        answer: Answer::Refused(refusal),
-    }
 }
 
 // The record as it was, and a refusal.
@@ -61,59 +49,7 @@ fn refuse_link(link: Link, refusal: Refusal) -> Stepped
     }
 }
 
-// The place of a socket's record.
-fn place_of(socket: Socket) -> usize
-    requires { ⌜ (1 ≤ socket .0) × (socket .0 ≤ 8) ⌝ }
-    ensures { λ r. ⌜ (r ≡ socket .0 - 1) × (r < 8) ⌝ }
-{
-    socket.0 as usize - 1
-}
-
-// The record at a place.
-fn link_at(links: [Link; 8], place: usize) -> Link
-    requires { ⌜ place < 8 ⌝ }
-    ensures { λ r. ⌜ r ≡ getD links place noLink ⌝ }
-{
-    links[place]
-}
-
-// The records with the one at a place after its step, and the answer.
-fn store(links: [Link; 8], place: usize, stepped: Stepped) -> Received
-    requires { ⌜ place < 8 ⌝ }
-    ensures { λ r. ⌜ r ≡ stored links place stepped ⌝ }
-{
-    let link = stepped.link;
-    let answer = stepped.answer;
-    let mut out = links;
-    out[place] = link;
-    Received {
-        links: out,
-        answer: answer,
-    }
-}
-
-// A record in a state and with a Link ID, and else blank.
-fn blank_with(state: LinkState, id: u32) -> Link
-    ensures { λ r. ⌜ r ≡ blankWith Provisioner state id ⌝ }
-{
-    Link {
-        state: state,
-        id: id,
-        next: TransactionNumber(0),
-        outstanding: false,
-        last: LastDelivered::Nothing,
-        half: HalfReceived::Nothing,
-    }
-}
-
-// The records of a station at its start: eight sockets, all free.
-pub fn blank_links() -> [Link; 8]
-    ensures { λ r. ⌜ r ≡ replicate 8 (blank Provisioner) ⌝ }
-{
-    let link = blank_with(LinkState::Free, 0);
-    [link; 8]
-}
-
+// The record in another state.
 fn with_state(link: Link, state: LinkState) -> Link
     ensures { λ r. ⌜ r ≡ withState link state ⌝ }
 {
@@ -130,6 +66,7 @@ fn with_state(link: Link, state: LinkState) -> Link
     }
 }
 
+// The record with another last delivered number and half-received message.
 fn with_received(link: Link, last: LastDelivered, half: HalfReceived) -> Link
     ensures { λ r. ⌜ r ≡ withReceived link last half ⌝ }
 {
@@ -140,22 +77,6 @@ fn with_received(link: Link, last: LastDelivered, half: HalfReceived) -> Link
         id: link.id,
         next: next,
         outstanding: link.outstanding,
-        last: last,
-        half: half,
-    }
-}
-
-fn with_sending(link: Link, next: TransactionNumber, outstanding: bool) -> Link
-    ensures { λ r. ⌜ r ≡ withSending link next outstanding ⌝ }
-{
-    let state = link.state;
-    let last = link.last;
-    let half = link.half;
-    Link {
-        state: state,
-        id: link.id,
-        next: next,
-        outstanding: outstanding,
         last: last,
         half: half,
     }
@@ -515,7 +436,9 @@ fn at_link(links: [Link; 8], id: u32, parsed: Parsed) -> Received
     };
     let link = link_at(links, place);
     let stepped = step_frame(link, parsed);
-    store(links, place, stepped)
+    let after = stepped.link;
+    let answer = stepped.answer;
+    store(links, place, after, answer)
 }
 
 // A frame of another kind; a segment does not come here.
@@ -548,7 +471,9 @@ fn at_socket(
     let link = link_at(links, place);
     let base = 1469 * place;
     let stepped = take_segment(link, segment, &mut area[base..base + 1469], frame);
-    store(links, place, stepped)
+    let after = stepped.link;
+    let answer = stepped.answer;
+    store(links, place, after, answer)
 }
 
 // A segment, for the link of its Link ID.
@@ -580,132 +505,4 @@ pub fn receive(links: [Link; 8], area: &mut [u8], frame: &[u8]) -> Received
         return receive_segment(links, segment, area, frame);
     }
     refuse_call(links, Refusal::BadState)
-}
-
-// Opens a link at a socket of the station, in a state that is not bad.
-fn open_at(links: [Link; 8], socket: Socket, id: u32) -> Received
-    requires { ⌜ CallAsks links socket ⌝ }
-    ensures { λ r. ⌜ r ≡ calledOf (localOpen Provisioner links socket id) ⌝ }
-{
-    let place = place_of(socket);
-    let link = link_at(links, place);
-    let state = link.state;
-    if link_fields::is_in_use(state) {
-        return refuse_call(links, Refusal::SocketInUse);
-    }
-    let taken = link_state::find_link(links, id);
-    match taken {
-        Found::At(_) => refuse_call(links, Refusal::LinkIdInUse),
-        Found::Nowhere => {
-            let opened = blank_with(LinkState::Opening, id);
-            store(
-                links,
-                place,
-                Stepped {
-                    link: opened,
-                    answer: Answer::Done,
-                },
-            )
-        }
-    }
-}
-
-// Opens a link with a Link ID at a socket.
-pub fn open(links: [Link; 8], socket: Socket, id: u32) -> Received
-    ensures { λ r. ⌜ r ≡ calledOf (localOpen Provisioner links socket id) ⌝ }
-{
-    if socket.is_one_of(8) {
-        if link_state::is_good(Side::Provisioner, links) {
-            return open_at(links, socket, id);
-        }
-        return refuse_call(links, Refusal::BadState);
-    }
-    refuse_call(links, Refusal::WrongArgument)
-}
-
-// Begins to send on a socket of the station, in a state that is not bad.
-fn send_at(links: [Link; 8], socket: Socket, length: u16) -> Received
-    requires { ⌜ CallAsks links socket × (1 ≤ length) × (length ≤ 1469) ⌝ }
-    ensures { λ r. ⌜ r ≡ calledOf (localSend Provisioner links socket length) ⌝ }
-{
-    let place = place_of(socket);
-    let link = link_at(links, place);
-    let state = link.state;
-    if link_fields::is_open(state) {
-        if link.outstanding {
-            return refuse_call(links, Refusal::Outstanding);
-        }
-        let number = link.next;
-        let last = pb_adv::last_segment(length);
-        let sending = with_sending(link, number, true);
-        return store(
-            links,
-            place,
-            Stepped {
-                link: sending,
-                answer: Answer::Sending {
-                    number: number,
-                    last: last,
-                },
-            },
-        );
-    }
-    refuse_call(links, Refusal::NotOpen)
-}
-
-fn is_length(length: usize) -> bool
-    ensures { λ r. ⌜ r ≡ isLength length ⌝ }
-{
-    if 1 <= length { length <= 1469 } else { false }
-}
-
-// Begins to send a message of so many octets on a socket's link: its number and SegN.
-pub fn send(links: [Link; 8], socket: Socket, length: usize) -> Received
-    ensures { λ r. ⌜ r ≡ calledOf (localSend Provisioner links socket length) ⌝ }
-{
-    if socket.is_one_of(8) {
-        if is_length(length) {
-            if link_state::is_good(Side::Provisioner, links) {
-                return send_at(links, socket, length as u16);
-            }
-            return refuse_call(links, Refusal::BadState);
-        }
-        return refuse_call(links, Refusal::WrongArgument);
-    }
-    refuse_call(links, Refusal::WrongArgument)
-}
-
-// Closes a link of the station, in a state that is not bad.
-fn close_at(links: [Link; 8], socket: Socket) -> Received
-    requires { ⌜ CallAsks links socket ⌝ }
-    ensures { λ r. ⌜ r ≡ calledOf (localClose Provisioner links socket) ⌝ }
-{
-    let place = place_of(socket);
-    let link = link_at(links, place);
-    let state = link.state;
-    if link_fields::is_in_use(state) {
-        let closed = blank_with(LinkState::Free, 0);
-        return store(
-            links,
-            place,
-            Stepped {
-                link: closed,
-                answer: Answer::Done,
-            },
-        );
-    }
-    refuse_call(links, Refusal::NotOpen)
-}
-
-// Closes a socket's link.
-pub fn close(links: [Link; 8], socket: Socket) -> Received
-    ensures { λ r. ⌜ r ≡ calledOf (localClose Provisioner links socket) ⌝ }
-{
-    if socket.is_one_of(8) {
-        if link_state::is_good(Side::Provisioner, links) {
-            return close_at(links, socket);
-        }
-        return refuse_call(links, Refusal::BadState);
-    }
-    refuse_call(links, Refusal::WrongArgument)
 }

@@ -1,19 +1,10 @@
--- A place that was found is one of the records; at it the frame does what it does without the area (`other-at`).
-use Prim.Native.Nat.{_<_}
+-- At the place that was found the frame does what it does without the area (`other-at`).
 use borrow.Author.Needs.{needs}
-use lib.ListN.{length}
 use mathlib.Core.List.{[]}
 use mathlib.Core.Path.{_∙_, sym}
-use Rattle.links.proofs.Lens.{found-at}
 use Rattle.station.proofs.Laws.{other-at}
 use Rattle.station.proofs.at_link.Statement.{statement}
 use Rattle.station.proofs.at_link.Tie as tie
-
--- the place that was found is one of the records
-below : (c : tie.After-known-told) → c .before .found .given .0 .0 < length (c .before .before .before .before .args .links)
-below c =
-    let a = c .before .before .before .before .args in
-    found-at (a .links) (a .id) (c .before .found .given .0 .0) (sym (c .before .before .before .find-link .ensures) ∙ c .before .found .given .1) .0
 
 find-link-requires : tie.Need-find-link-requires
 find-link-requires c κs = search needs
@@ -31,19 +22,19 @@ returns : tie.Need-returns
 returns c = let e = sym (c .before .before .before .find-link .ensures) ∙ c .before .enum-told .given .1 in simp (e, c .refuse-call .ensures)
 
 link-at-requires : tie.Need-link-at-requires
-link-at-requires c κs = let b = below c in search needs
+link-at-requires c κs = search needs
 
 step-frame-requires : tie.Need-step-frame-requires
 step-frame-requires c κs = search needs
 
 store-requires : tie.Need-store-requires
-store-requires c κs = let b = below (c .before .before) in search needs
+store-requires c κs = search needs
 
 returns-2 : tie.Need-returns-2
 returns-2 c =
-    let a = c .before .before .before .before .before .before .before .args in
-    let e = sym (c .before .before .before .before .before .before .find-link .ensures) ∙ c .before .before .before .before .found .given .1 in
-    rw (c .store .ensures, c .before .step-frame .ensures, c .before .before .link-at .ensures, e) (sym (other-at (a .links) [] [] (a .parsed) (c .before .before .before .before .before .before .before .pre) (c .before .before .before .before .found .given .0 .0)))
+    let a = c .before .before .before .before .before .before .before .before .args in
+    let e = sym (c .before .before .before .before .before .before .before .find-link .ensures) ∙ c .before .before .before .before .before .found .given .1 in
+    rw (c .store .ensures, c .before .before .step-frame .ensures, c .before .before .before .link-at .ensures, e) (sym (other-at (a .links) [] [] (a .parsed) (c .before .before .before .before .before .before .before .before .pre) (c .before .before .before .before .before .found .given .0 .0)))
 
 pub at-link-spec : {M : Type 1} → statement M
 at-link-spec =

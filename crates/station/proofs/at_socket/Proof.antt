@@ -42,13 +42,13 @@ same-length c = search needs
 
 returns : tie.Need-returns
 returns c =
-    let st = c .before .before .before .take-segment in
-    let a = c .before .before .before .before .before .before .before .before .args in
+    let st = c .before .before .before .before .take-segment in
+    let a = c .before .before .before .before .before .before .before .before .before .args in
     let b : ℕ = 1469 * a .place in
     let e = add-sub-cancel-left b 1469 in (
-      rw (c .store .ensures, st .ensures .0, c .before .before .before .before .before .link-at .ensures) (socket-stored (a .links) (a .area .now) (a .frame .now) (a .segment) (a .place) (b + 1469 - b) e),
+      rw (c .store .ensures, st .ensures .0, c .before .before .before .before .before .before .link-at .ensures) (socket-stored (a .links) (a .area .now) (a .frame .now) (a .segment) (a .place) (b + 1469 - b) e),
       back (a .area .now) b (b + 1469 - b) (st .last .1 .1 .0) (omega (arith, st .kept .1 .1 .0))
-          ∙ rw (st .ensures .1, c .before .before .before .before .before .link-at .ensures) (socket-area (a .links) (a .area .now) (a .frame .now) (a .segment) (a .place) (b + 1469 - b) e),
+          ∙ rw (st .ensures .1, c .before .before .before .before .before .before .link-at .ensures) (socket-area (a .links) (a .area .now) (a .frame .now) (a .segment) (a .place) (b + 1469 - b) e),
     )
 
 pub at-socket-spec : {M : Type 1} → statement M

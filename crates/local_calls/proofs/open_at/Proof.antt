@@ -3,9 +3,9 @@ use borrow.Author.Needs.{needs}
 use lib.ListN.{length}
 use mathlib.Core.Path.{_∙_, _≡_, sym}
 use Rattle.links.specs.Station.{localOpen}
-use Rattle.station.proofs.Laws.{socket-in}
-use Rattle.station.proofs.open_at.Statement.{statement}
-use Rattle.station.proofs.open_at.Tie as tie
+use Rattle.local_calls.proofs.Laws.{socket-in}
+use Rattle.local_calls.proofs.open_at.Statement.{statement}
+use Rattle.local_calls.proofs.open_at.Tie as tie
 
 place-of-requires : tie.Need-place-of-requires
 place-of-requires c κs = search needs

@@ -4,10 +4,10 @@ use borrow.Author.Tests.{le-leb}
 use lib.ListN.{length}
 use mathlib.Core.Path.{_∙_, _≡_, ap, sym}
 use Rattle.links.specs.Station.{localSend}
-use Rattle.station.proofs.Laws.{sends-on, socket-in}
-use Rattle.station.specs.Calls.{calledOf}
-use Rattle.station.proofs.send_at.Statement.{statement}
-use Rattle.station.proofs.send_at.Tie as tie
+use Rattle.local_calls.proofs.Laws.{sends-on, socket-in}
+use Rattle.local_calls.specs.Calls.{calledOf}
+use Rattle.local_calls.proofs.send_at.Statement.{statement}
+use Rattle.local_calls.proofs.send_at.Tie as tie
 
 place-of-requires : tie.Need-place-of-requires
 place-of-requires c κs = search needs

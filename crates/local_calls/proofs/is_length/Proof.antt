@@ -1,7 +1,7 @@
 -- The two tests.
 use Rattle.octets.proofs.Tests.{tests}
-use Rattle.station.proofs.is_length.Statement.{statement}
-use Rattle.station.proofs.is_length.Tie as tie
+use Rattle.local_calls.proofs.is_length.Statement.{statement}
+use Rattle.local_calls.proofs.is_length.Tie as tie
 
 returns : tie.Need-returns
 returns c = search tests

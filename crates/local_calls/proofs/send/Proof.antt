@@ -3,9 +3,9 @@ use borrow.Author.Needs.{needs}
 use lib.ListN.{length}
 use mathlib.Core.Path.{_∙_, _≡_, sym}
 use Rattle.links.specs.Station.{localSend}
-use Rattle.station.proofs.Laws.{length-out, socket-out}
-use Rattle.station.proofs.send.Statement.{statement}
-use Rattle.station.proofs.send.Tie as tie
+use Rattle.local_calls.proofs.Laws.{length-out, socket-out}
+use Rattle.local_calls.proofs.send.Statement.{statement}
+use Rattle.local_calls.proofs.send.Tie as tie
 
 is-one-of-requires : tie.Need-is-one-of-requires
 is-one-of-requires c κs = search needs

@@ -1,0 +1,150 @@
+// The station's local calls: open, send and close, and the records at its start. Each call takes the eight link records by value and
+// hands them back.
+use link_records::Received;
+use link_records::blank_with;
+use link_records::link_at;
+use link_records::refuse_call;
+use link_records::store;
+use links::Answer;
+use links::Found;
+use links::Link;
+use links::LinkState;
+use links::Refusal;
+use links::Side;
+use pb_adv::Socket;
+ghost use Prim.Native.Nat.{_-_, _≤_, _<_};
+ghost use mathlib.Core.Path.{_≡_};
+ghost use lib.ListN.{replicate};
+ghost use Rattle.pb_adv.specs.Segments.{isLength};
+ghost use Rattle.links.specs.Links.{blank};
+ghost use Rattle.links.specs.Station.{localOpen, localSend, localClose};
+ghost use Rattle.links.specs.declared.Side.the-variants.{Provisioner};
+ghost use Rattle.local_calls.specs.Calls.{calledOf, CallAsks};
+
+// The records of a station at its start: eight sockets, all free.
+pub fn blank_links() -> [Link; 8]
+    ensures { λ r. ⌜ r ≡ replicate 8 (blank Provisioner) ⌝ }
+{
+    let link = blank_with(LinkState::Free, 0);
+    [link; 8]
+}
+
+// The place of a socket's record.
+fn place_of(socket: Socket) -> usize
+    requires { ⌜ (1 ≤ socket .0) × (socket .0 ≤ 8) ⌝ }
+    ensures { λ r. ⌜ (r ≡ socket .0 - 1) × (r < 8) ⌝ }
+{
+    socket.0 as usize - 1
+}
+
+// Opens a link at a socket of the station, in a state that is not bad.
+fn open_at(links: [Link; 8], socket: Socket, id: u32) -> Received
+    requires { ⌜ CallAsks links socket ⌝ }
+    ensures { λ r. ⌜ r ≡ calledOf (localOpen Provisioner links socket id) ⌝ }
+{
+    let place = place_of(socket);
+    let link = link_at(links, place);
+    let state = link.state;
+    if link_fields::is_in_use(state) {
+        return refuse_call(links, Refusal::SocketInUse);
+    }
+    let taken = link_state::find_link(links, id);
+    match taken {
+        Found::At(_) => refuse_call(links, Refusal::LinkIdInUse),
+        Found::Nowhere => {
+            let opened = blank_with(LinkState::Opening, id);
+            store(links, place, opened, Answer::Done)
+        }
+    }
+}
+
+// Opens a link with a Link ID at a socket.
+pub fn open(links: [Link; 8], socket: Socket, id: u32) -> Received
+    ensures { λ r. ⌜ r ≡ calledOf (localOpen Provisioner links socket id) ⌝ }
+{
+    if socket.is_one_of(8) {
+        if link_state::is_good(Side::Provisioner, links) {
+            return open_at(links, socket, id);
+        }
+        return refuse_call(links, Refusal::BadState);
+    }
+    refuse_call(links, Refusal::WrongArgument)
+}
+
+// Begins to send on a socket of the station, in a state that is not bad.
+fn send_at(links: [Link; 8], socket: Socket, length: u16) -> Received
+    requires { ⌜ CallAsks links socket × (1 ≤ length) × (length ≤ 1469) ⌝ }
+    ensures { λ r. ⌜ r ≡ calledOf (localSend Provisioner links socket length) ⌝ }
+{
+    let place = place_of(socket);
+    let link = link_at(links, place);
+    let state = link.state;
+    if link_fields::is_open(state) {
+        if link.outstanding {
+            return refuse_call(links, Refusal::Outstanding);
+        }
+        let number = link.next;
+        let last = pb_adv::last_segment(length);
+        let sending = link_records::with_sending(link, number, true);
+        return store(
+            links,
+            place,
+            sending,
+            Answer::Sending {
+                number: number,
+                last: last,
+            },
+        );
+    }
+    refuse_call(links, Refusal::NotOpen)
+}
+
+fn is_length(length: usize) -> bool
+    ensures { λ r. ⌜ r ≡ isLength length ⌝ }
+{
+    if 1 <= length { length <= 1469 } else { false }
+}
+
+// Begins to send a message of so many octets on a socket's link: its number and SegN.
+pub fn send(links: [Link; 8], socket: Socket, length: usize) -> Received
+    ensures { λ r. ⌜ r ≡ calledOf (localSend Provisioner links socket length) ⌝ }
+{
+    if socket.is_one_of(8) {
+        if is_length(length) {
+            if link_state::is_good(Side::Provisioner, links) {
+                return send_at(links, socket, length as u16);
+            }
+            return refuse_call(links, Refusal::BadState);
+        }
+        return refuse_call(links, Refusal::WrongArgument);
+    }
+    refuse_call(links, Refusal::WrongArgument)
+}
+
+// Closes a link of the station, in a state that is not bad.
+fn close_at(links: [Link; 8], socket: Socket) -> Received
+    requires { ⌜ CallAsks links socket ⌝ }
+    ensures { λ r. ⌜ r ≡ calledOf (localClose Provisioner links socket) ⌝ }
+{
+    let place = place_of(socket);
+    let link = link_at(links, place);
+    let state = link.state;
+    if link_fields::is_in_use(state) {
+        let closed = blank_with(LinkState::Free, 0);
+        return store(links, place, closed, Answer::Done);
+    }
+    refuse_call(links, Refusal::NotOpen)
+}
+
+// Closes a socket's link.
+pub fn close(links: [Link; 8], socket: Socket) -> Received
+    ensures { λ r. ⌜ r ≡ calledOf (localClose Provisioner links socket) ⌝ }
+{
+    if socket.is_one_of(8) {
+        if link_state::is_good(Side::Provisioner, links) {
+            return close_at(links, socket);
+        }
+        return refuse_call(links, Refusal::BadState);
+    }
+    refuse_call(links, Refusal::WrongArgument)
+}
