@@ -29,7 +29,8 @@ use Rattle.provisioning.specs.declared.Message.the-variants as M
 use Rattle.provisioning.proofs.Promises.{capabilities-in-place}
 use Rattle.stock_record.specs.Texts.{recordLine}
 use Rattle.import_lines.specs.Lines.{isFrame, socketAt, trayOf, stationOf, messageStep, deliveredAt, frameStep, lineStep}
-use Rattle.import_lines.specs.Promises.{fieldsOf, WholeWay, RefusalKeeps}
+use Rattle.stock_record.proofs.Promises.{record-loses-nothing}
+use Rattle.import_lines.specs.Promises.{DeliveryWrites, fieldsOf, WholeWay, RefusalKeeps}
 use Rattle.import_lines.specs.Steps.{isEnough, importedOf, areaAfter, outputAfter}
 use Rattle.import_lines.specs.declared.Tray.{Tray}
 use Rattle.import_lines.proofs.Laws.{frame-line}
@@ -69,9 +70,9 @@ record-written : (tray : Tray) (number s id : ℕ) (t : TransactionNumber) (m : 
 unfolding messageStep
 record-written tray number s id t m c e = rw e (ap (recordLine (socketAt s) id t) (fields-placed m c e))
 
-pub whole-way : WholeWay
+delivery-writes : DeliveryWrites
 unfolding lineStep getLink
-whole-way σ message P cs r pre c post split first capabilities accepted awaited number line hexadecimal same =
+delivery-writes σ message P cs r pre c post split first capabilities accepted awaited number line hexadecimal same =
     let s = c .socket in
     let m = octetsOf Provisioner σ message s in
     let f = frameOf Provisioner σ message c in
@@ -87,6 +88,9 @@ whole-way σ message P cs r pre c post split first capabilities accepted awaited
     ∙ rw next at (claim .stand pre c [] post split first) in
     rw (isFrame, same, frame-delivers (trayOf (τ .links) awaited) (τ .area) number f (length m) (message s .number) s (claim .due pre c post split first) found, stands, head .0)
     (record-written _ number s _ (message s .number) m capabilities accepted)
+
+pub whole-way : WholeWay
+whole-way = record { writes = delivery-writes; losesNothing = record-loses-nothing }
 
 pub refusal-keeps : RefusalKeeps
 unfolding importedOf areaAfter outputAfter

@@ -16,6 +16,7 @@ use Rattle.provisioning.specs.declared.Capabilities.{Capabilities}
 use Rattle.provisioning.specs.declared.Message.the-variants as M
 use Rattle.octets.specs.Writing.{told}
 use Rattle.stock_record.specs.Texts.{recordLine}
+use Rattle.stock_record.specs.Promises.{RecordLosesNothing}
 use Rattle.import_lines.specs.Lines.{lineStep, lineArea, trayOf, socketAt}
 use Rattle.import_lines.specs.Steps.{importedOf, areaAfter, outputAfter}
 use Rattle.import_lines.specs.declared.Tray.{Tray}
@@ -33,11 +34,10 @@ fieldsOf m = record {
   «input_oob_action» = big16 m 10;
 }
 
--- THE WHOLE WAY, from the frames of a tray to a stock record: under demand 3's premises, the line of the frame by which a Capabilities message is
--- whole writes that message's record, whatever lines came before for this and other sockets: its socket, its link's Link ID, its number, and each
--- field from its own octets
-abbrev pub WholeWay : Type 0
-WholeWay =
+-- under demand 3's premises, the line of the frame by which a Capabilities message is whole writes that message's record, whatever lines came
+-- before for this and other sockets: its socket, its link's Link ID, its number, and each field from its own octets
+abbrev pub DeliveryWrites : Type 0
+DeliveryWrites =
     (σ : Station) (message : ℕ → Message) → Premises Provisioner σ message
     → (cs : List Call) → All (Right Provisioner σ message) cs
     → (pre : List Call) (c : Call) (post : List Call) → cs ≡ pre ++ (c ∷ post) → First Provisioner σ message pre c
@@ -45,6 +45,12 @@ WholeWay =
     → (awaited : List Bool) (number : ℕ) (line : List ℕ) → isHexadecimal line ≡ true → octetsIn line ≡ frameOf Provisioner σ message c
     → lineStep (trayOf (after Provisioner σ message pre .links) awaited) (after Provisioner σ message pre .area) number line .text
     ≡ recordLine (socketAt (c .socket)) (linkOf Provisioner σ message (c .socket) .id) (message (c .socket) .number) (fieldsOf (octetsOf Provisioner σ message (c .socket)))
+
+-- THE WHOLE WAY, from the frames of a tray to a stock record: what is delivered is written, and what is written loses nothing. So no field of a
+-- record can come from another octet than its own
+pub record WholeWay : Type 0 where
+  pub writes : DeliveryWrites
+  pub losesNothing : RecordLosesNothing
 
 -- a refusal for want of room leaves the tray, the area and the output as they were
 abbrev pub RefusalKeeps : Type 0
