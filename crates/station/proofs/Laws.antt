@@ -23,12 +23,13 @@ use Rattle.pb_adv.proofs.Laws.{segment-begins}
 use Rattle.pb_adv.specs.declared.SegmentHeader.{SegmentHeader}
 use Rattle.pb_adv.specs.declared.SegmentHeader.the-variants.{Start, Continuation}
 use Rattle.pb_adv.specs.declared.Segment.{Segment}
+use Rattle.pb_adv.specs.declared.TransactionNumber.{TransactionNumber}
 use Rattle.pb_adv.specs.declared.Parsed.{Parsed}
 use Rattle.pb_adv.specs.declared.Parsed.the-variants as P
 use Rattle.links.specs.Marks.{isMarked, withMark, allMarked}
-use Rattle.links.specs.Links.{sends, find}
+use Rattle.links.specs.Links.{sends, isLast, find}
 use Rattle.links.specs.Good.{good, goodHalf, goodAs, goodLink, atRest, isNothing, isEmpty}
-use Rattle.links.specs.Segments.{OneLink, marked, entered, offered}
+use Rattle.links.specs.Segments.{OneLink, marked, entered, offered, onHalf, segmentStep}
 use Rattle.links.specs.Station.{Station, noLink, getLink, putLink, acknowledgementStep, frameStep, atSocket, onFrame, received}
 use Rattle.links.proofs.Keep.{message-out, open-out}
 use Rattle.links.proofs.Lens.{found-at, good-out, all-at, put-get}
@@ -94,6 +95,17 @@ module _ (x : OneLink) (h : HalfMessage) (k : ℕ) (f : List ℕ) (from count : 
   pub offered-new : isMarked (h .marks) k ≡ false → offered x h k (part f from count) ≡ entered x h k (part f from count)
   unfolding offered
   offered-new m = rw (le-leb k (segN (h .length)) (asks .inside), right, m)
+
+-- ---- a segment at an open link
+
+module _ (x : OneLink) (t : TransactionNumber) (h : SegmentHeader) (d : List ℕ) where
+  pub delivered-last : isLast (x .link .last) t ≡ true → segmentStep x t h d ≡ (A.AcknowledgeAgain, x)
+  unfolding segmentStep
+  delivered-last e = rw e
+
+  pub not-delivered-last : isLast (x .link .last) t ≡ false → segmentStep x t h d ≡ onHalf x (x .link .half) t h d
+  unfolding segmentStep
+  not-delivered-last e = rw e
 
 -- ---- the part that is lent
 
