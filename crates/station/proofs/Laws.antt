@@ -23,12 +23,13 @@ use Rattle.pb_adv.proofs.Laws.{segment-begins}
 use Rattle.pb_adv.specs.declared.SegmentHeader.{SegmentHeader}
 use Rattle.pb_adv.specs.declared.SegmentHeader.the-variants.{Start, Continuation}
 use Rattle.pb_adv.specs.declared.Segment.{Segment}
+use Rattle.pb_adv.specs.declared.TransactionNumber.{TransactionNumber}
 use Rattle.pb_adv.specs.declared.Parsed.{Parsed}
 use Rattle.pb_adv.specs.declared.Parsed.the-variants as P
 use Rattle.links.specs.Marks.{isMarked, withMark, allMarked}
-use Rattle.links.specs.Links.{sends, find}
+use Rattle.links.specs.Links.{sends, isLast, find}
 use Rattle.links.specs.Good.{good, goodHalf, goodAs, goodLink, atRest, isNothing, isEmpty}
-use Rattle.links.specs.Segments.{OneLink, marked, entered, offered}
+use Rattle.links.specs.Segments.{OneLink, marked, entered, offered, onHalf, segmentStep}
 use Rattle.links.specs.Station.{Station, noLink, getLink, putLink, acknowledgementStep, frameStep, atSocket, onFrame, received}
 use Rattle.links.proofs.Keep.{message-out, open-out}
 use Rattle.links.proofs.Lens.{found-at, good-out, all-at, put-get}
@@ -46,7 +47,7 @@ use Rattle.links.specs.declared.Refusal.the-variants as R
 use Rattle.links.specs.declared.Answer.{Answer}
 use Rattle.links.specs.declared.Answer.the-variants as A
 use Rattle.station.specs.Calls.{stationOf, receiving, oneLink, steppedOf, receivedOf}
-use Rattle.station.specs.Steps.{completed, compared, EnterAsks, segmentTaken, steppedAt, atFound, NoSegment, otherStep, otherAt, otherFrame, InRange}
+use Rattle.station.specs.Steps.{linkRefused, completed, compared, EnterAsks, segmentTaken, steppedAt, atFound, NoSegment, otherStep, otherAt, otherFrame, InRange}
 
 -- ---- a segment that goes to a message
 
@@ -94,6 +95,17 @@ module _ (x : OneLink) (h : HalfMessage) (k : ℕ) (f : List ℕ) (from count : 
   pub offered-new : isMarked (h .marks) k ≡ false → offered x h k (part f from count) ≡ entered x h k (part f from count)
   unfolding offered
   offered-new m = rw (le-leb k (segN (h .length)) (asks .inside), right, m)
+
+-- ---- a segment at an open link
+
+module _ (x : OneLink) (t : TransactionNumber) (h : SegmentHeader) (d : List ℕ) where
+  pub delivered-last : isLast (x .link .last) t ≡ true → segmentStep x t h d ≡ (A.AcknowledgeAgain, x)
+  unfolding segmentStep
+  delivered-last e = rw e
+
+  pub not-delivered-last : isLast (x .link .last) t ≡ false → segmentStep x t h d ≡ onHalf x (x .link .half) t h d
+  unfolding segmentStep
+  not-delivered-last e = rw e
 
 -- ---- the part that is lent
 
@@ -164,6 +176,26 @@ no-segment (P.Open id uuid) h = tt
 no-segment (P.Ack id) h = tt
 no-segment (P.Close id reason) h = tt
 no-segment (P.Refused r) h = tt
+
+-- the kinds that an opening link refuses
+pub refused-opening : (l : Link) (p : Parsed) → OneOf (0 ∷ 1 ∷ 2 ∷ []) (tagOf the-type p) → linkRefused l R.NotOpen ≡ steppedOf (otherStep l S.Opening p)
+unfolding frameStep
+refused-opening l (P.Segment s) h = refl
+refused-opening l (P.Acknowledgement id t) h = refl
+refused-opening l (P.Open id uuid) h = refl
+refused-opening l (P.Ack id) h = absurd (miss (0 ∷ 1 ∷ 2 ∷ []) 3 tt h)
+refused-opening l (P.Close id reason) h = absurd (miss (0 ∷ 1 ∷ 2 ∷ []) 4 tt h)
+refused-opening l (P.Refused r) h = absurd (miss (0 ∷ 1 ∷ 2 ∷ []) 5 tt h)
+
+-- the kind that an open link refuses
+pub refused-open : (l : Link) (p : Parsed) → NoSegment p → OneOf (0 ∷ 2 ∷ []) (tagOf the-type p) → linkRefused l R.WrongDirection ≡ steppedOf (otherStep l S.Open p)
+unfolding frameStep
+refused-open l (P.Segment s) n h = absurd n
+refused-open l (P.Acknowledgement id t) n h = absurd (miss (0 ∷ 2 ∷ []) 1 tt h)
+refused-open l (P.Open id uuid) n h = refl
+refused-open l (P.Ack id) n h = absurd (miss (0 ∷ 2 ∷ []) 3 tt h)
+refused-open l (P.Close id reason) n h = absurd (miss (0 ∷ 2 ∷ []) 4 tt h)
+refused-open l (P.Refused r) n h = absurd (miss (0 ∷ 2 ∷ []) 5 tt h)
 
 -- at a link it does what it does without the octets, and leaves the part
 module _ (l : Link) (a f : List ℕ) where

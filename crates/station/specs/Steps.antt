@@ -37,9 +37,13 @@ use Rattle.station.specs.declared.Stepped.{Stepped}
 
 -- ---- what is handed back
 
+-- a record and an answer
+abbrev pub steppedTo : Link → Answer → Stepped
+steppedTo link answer = record { link = link; answer = answer }
+
 -- a refusal, and nothing changed
 abbrev pub linkRefused : Link → Refusal → Stepped
-linkRefused link r = record { link = link; answer = A.Refused r }
+linkRefused link r = steppedTo link (A.Refused r)
 
 -- the records and the answer after a step of the link at place s
 abbrev pub steppedAt : List Link → ℕ → Stepped → Received

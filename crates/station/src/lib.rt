@@ -24,14 +24,15 @@ ghost use mathlib.Core.List.{[]};
 ghost use mathlib.Core.Path.{_≡_};
 ghost use lib.ListN.{length};
 ghost use Rattle.pb_adv.specs.declared.SegmentHeader.the-variants.{Start, Continuation};
-ghost use Rattle.links.specs.Links.{withState, withReceived, find};
+ghost use Rattle.links.specs.Links.{blank, withState, withReceived, find};
 ghost use Rattle.links.specs.Segments.{begun, marked};
 ghost use Rattle.links.specs.Station.{acknowledgementStep, frameRefusal};
-ghost use Rattle.links.specs.declared.Side.the-variants.{Provisioner};
 ghost use Rattle.links.specs.declared.LinkState.the-variants.{Opening, Open};
 ghost use Rattle.links.specs.declared.Found.the-variants.{At};
+ghost use Rattle.links.specs.declared.Answer.the-variants.{Opened, Closed};
+ghost use Rattle.links.specs.declared.Side.the-variants.{Provisioner};
 ghost use Rattle.station.specs.Calls.{receiving, receivedOf, oneLink, steppedOf};
-ghost use Rattle.station.specs.Steps.{linkRefused, completed, compared, enteredFrom, offeredFrom, begunFrom, OfferAsks, EnterAsks, SegmentAsks, byHeader, segmentSteps, segmentTaken, NoSegment, otherStep, otherAt, otherFrame, SocketAsks, atFound};
+ghost use Rattle.station.specs.Steps.{steppedTo, linkRefused, completed, compared, enteredFrom, offeredFrom, begunFrom, OfferAsks, EnterAsks, SegmentAsks, byHeader, segmentSteps, segmentTaken, NoSegment, otherStep, otherAt, otherFrame, SocketAsks, atFound};
 
 // One record after a step of its link, and the answer.
 pub struct Stepped {
@@ -49,36 +50,52 @@ fn refuse_link(link: Link, refusal: Refusal) -> Stepped
     }
 }
 
-// The record in another state.
-fn with_state(link: Link, state: LinkState) -> Link
-    ensures { λ r. ⌜ r ≡ withState link state ⌝ }
+// The record that its Ack opens.
+fn after_ack(link: Link) -> Stepped
+    ensures { λ r. ⌜ r ≡ steppedTo (withState link Open) Opened ⌝ }
 {
     let next = link.next;
     let last = link.last;
     let half = link.half;
-    Link {
-        state: state,
-        id: link.id,
-        next: next,
-        outstanding: link.outstanding,
-        last: last,
-        half: half,
+    Stepped {
+        link: Link {
+            state: LinkState::Open,
+            id: link.id,
+            next: next,
+            outstanding: link.outstanding,
+            last: last,
+            half: half,
+        },
+        answer: Answer::Opened,
     }
 }
 
-// The record with another last delivered number and half-received message.
-fn with_received(link: Link, last: LastDelivered, half: HalfReceived) -> Link
-    ensures { λ r. ⌜ r ≡ withReceived link last half ⌝ }
+// The record that a Close frees.
+fn after_close(reason: u8) -> Stepped
+    ensures { λ r. ⌜ r ≡ steppedTo (blank Provisioner) (Closed reason) ⌝ }
+{
+    Stepped {
+        link: blank_with(LinkState::Free, 0),
+        answer: Answer::Closed { reason: reason },
+    }
+}
+
+// The record with another last delivered number and half-received message, and the answer to the segment.
+fn after_segment(link: Link, last: LastDelivered, half: HalfReceived, answer: Answer) -> Stepped
+    ensures { λ r. ⌜ r ≡ steppedTo (withReceived link last half) answer ⌝ }
 {
     let state = link.state;
     let next = link.next;
-    Link {
-        state: state,
-        id: link.id,
-        next: next,
-        outstanding: link.outstanding,
-        last: last,
-        half: half,
+    Stepped {
+        link: Link {
+            state: state,
+            id: link.id,
+            next: next,
+            outstanding: link.outstanding,
+            last: last,
+            half: half,
+        },
+        answer: answer,
     }
 }
 
@@ -120,26 +137,24 @@ fn complete(link: Link, message: HalfMessage, part: &[u8]) -> Stepped
     if link_fields::all_marked(pb_adv::last_segment(length) as usize, message.marks) {
         let n = length as usize;
         if fcs::check_octet(&part[..n]) == message.check {
-            let whole = with_received(link, LastDelivered::Number(number), HalfReceived::Nothing);
-            return Stepped {
-                link: whole,
-                answer: Answer::Delivered {
+            return after_segment(
+                link,
+                LastDelivered::Number(number),
+                HalfReceived::Nothing,
+                Answer::Delivered {
                     length: length,
                     number: number,
                 },
-            };
+            );
         }
-        let wrong = with_received(link, last, HalfReceived::Nothing);
-        return Stepped {
-            link: wrong,
-            answer: Answer::Refused(Refusal::WrongCheck),
-        };
+        return after_segment(
+            link,
+            last,
+            HalfReceived::Nothing,
+            Answer::Refused(Refusal::WrongCheck),
+        );
     }
-    let kept = with_received(link, last, HalfReceived::Message(message));
-    Stepped {
-        link: kept,
-        answer: Answer::Kept,
-    }
+    after_segment(link, last, HalfReceived::Message(message), Answer::Kept)
 }
 
 // Enters a new segment.
@@ -366,19 +381,11 @@ fn step_opening(link: Link, parsed: Parsed) -> Stepped
     ensures { λ r. ⌜ r ≡ steppedOf (otherStep link Opening parsed) ⌝ }
 {
     match parsed {
-        Parsed::Segment(_) => refuse_link(link, Refusal::NotOpen),
-        Parsed::Acknowledgement { id: _, number: _ } => { refuse_link(link, Refusal::NotOpen) }
-        Parsed::Open { id: _, uuid: _ } => refuse_link(link, Refusal::NotOpen),
-        Parsed::Ack { id: _ } => Stepped {
-            link: with_state(link, LinkState::Open),
-            answer: Answer::Opened,
-        },
-        Parsed::Close { id: _, reason } => {
-            Stepped {
-                link: blank_with(LinkState::Free, 0),
-                answer: Answer::Closed { reason: reason },
-            }
-        }
+        Parsed::Segment(_)
+        | Parsed::Acknowledgement { id: _, number: _ }
+        | Parsed::Open { id: _, uuid: _ } => { refuse_link(link, Refusal::NotOpen) }
+        Parsed::Ack { id: _ } => after_ack(link),
+        Parsed::Close { id: _, reason } => after_close(reason),
         Parsed::Refused(refusal) => refuse_link(link, refusal_of(refusal)),
     }
 }
@@ -389,7 +396,9 @@ fn step_open(link: Link, parsed: Parsed) -> Stepped
     ensures { λ r. ⌜ r ≡ steppedOf (otherStep link Open parsed) ⌝ }
 {
     match parsed {
-        Parsed::Segment(_) => refuse_link(link, Refusal::WrongDirection),
+        Parsed::Segment(_) | Parsed::Open { id: _, uuid: _ } => {
+            refuse_link(link, Refusal::WrongDirection)
+        }
         Parsed::Acknowledgement { id: _, number } => {
             if link_fields::is_sent_by(Side::Provisioner, number) {
                 on_acknowledgement(link, number)
@@ -397,17 +406,11 @@ fn step_open(link: Link, parsed: Parsed) -> Stepped
                 refuse_link(link, Refusal::WrongDirection)
             }
         }
-        Parsed::Open { id: _, uuid: _ } => refuse_link(link, Refusal::WrongDirection),
         Parsed::Ack { id: _ } => Stepped {
             link: link,
             answer: Answer::Already,
         },
-        Parsed::Close { id: _, reason } => {
-            Stepped {
-                link: blank_with(LinkState::Free, 0),
-                answer: Answer::Closed { reason: reason },
-            }
-        }
+        Parsed::Close { id: _, reason } => after_close(reason),
         Parsed::Refused(refusal) => refuse_link(link, refusal_of(refusal)),
     }
 }

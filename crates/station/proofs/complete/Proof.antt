@@ -25,26 +25,26 @@ slice-aggregate-check-octet c = sym (length-take-le (c .before .before .before .
 check-octet-requires : tie.Need-check-octet-requires
 check-octet-requires c κs = search needs
 
-with-received-requires : tie.Need-with-received-requires
-with-received-requires c κs = search needs
+after-segment-requires : tie.Need-after-segment-requires
+after-segment-requires c κs = search needs
 
 returns : tie.Need-returns
 unfolding completed
-returns c = simp (c .with-received .ensures, ← (c .before .before .before .before .before .before .before .last-segment .ensures), ← (c .before .before .before .before .before .before .all-marked .ensures), c .before .before .before .before .before .if1 .taken, ← (c .before .before .before .check-octet .ensures), eq-eqb _ _ (c .before .if2 .taken))
+returns c = simp (c .after-segment .ensures, ← (c .before .before .before .before .before .before .before .last-segment .ensures), ← (c .before .before .before .before .before .before .all-marked .ensures), c .before .before .before .before .before .if1 .taken, ← (c .before .before .before .check-octet .ensures), eq-eqb _ _ (c .before .if2 .taken))
 
-with-received-requires-2 : tie.Need-with-received-requires-2
-with-received-requires-2 c κs = search needs
+after-segment-requires-2 : tie.Need-after-segment-requires-2
+after-segment-requires-2 c κs = search needs
 
 returns-2 : tie.Need-returns-2
 unfolding completed
-returns-2 c = simp (c .with-received2 .ensures, ← (c .before .before .before .before .before .before .before .last-segment .ensures), ← (c .before .before .before .before .before .before .all-marked .ensures), c .before .before .before .before .before .if1 .taken, ← (c .before .before .before .check-octet .ensures), ne-eqb _ _ (c .before .if2 .left))
+returns-2 c = simp (c .after-segment2 .ensures, ← (c .before .before .before .before .before .before .before .last-segment .ensures), ← (c .before .before .before .before .before .before .all-marked .ensures), c .before .before .before .before .before .if1 .taken, ← (c .before .before .before .check-octet .ensures), ne-eqb _ _ (c .before .if2 .left))
 
-with-received-requires-3 : tie.Need-with-received-requires-3
-with-received-requires-3 c κs = search needs
+after-segment-requires-3 : tie.Need-after-segment-requires-3
+after-segment-requires-3 c κs = search needs
 
 returns-3 : tie.Need-returns-3
 unfolding completed
-returns-3 c = simp (c .with-received3 .ensures, ← (c .before .before .before .last-segment .ensures), ← (c .before .before .all-marked .ensures), c .before .if1 .left)
+returns-3 c = simp (c .after-segment3 .ensures, ← (c .before .before .before .last-segment .ensures), ← (c .before .before .all-marked .ensures), c .before .if1 .left)
 
 pub complete-spec : {M : Type 1} → statement M
 complete-spec =
@@ -56,9 +56,9 @@ complete-spec =
     cast-n
     slice-aggregate-check-octet
     check-octet-requires
-    with-received-requires
+    after-segment-requires
     returns
-    with-received-requires-2
+    after-segment-requires-2
     returns-2
-    with-received-requires-3
+    after-segment-requires-3
     returns-3)

@@ -1,13 +1,10 @@
--- By the kind of the frame; a segment does not come here (`NoSegment`).
+-- By the kind of the frame; a segment does not come here (`NoSegment`), and the arm that it shares is that of an Open (`refused-open`).
 use borrow.Author.Needs.{needs}
-use mathlib.Core.Path.{subst}
+use mathlib.Core.Path.{_∙_}
 use Rattle.links.specs.Station.{frameStep}
-use Rattle.station.specs.Steps.{NoSegment}
+use Rattle.station.proofs.Laws.{refused-open}
 use Rattle.station.proofs.step_open.Statement.{statement}
 use Rattle.station.proofs.step_open.Tie as tie
-
-enum-told : tie.Need-enum-told
-enum-told c = search needs
 
 refuse-link-requires : tie.Need-refuse-link-requires
 refuse-link-requires c κs = search needs
@@ -24,20 +21,14 @@ on-acknowledgement-requires c κs = search needs
 refuse-link-requires-2 : tie.Need-refuse-link-requires-2
 refuse-link-requires-2 c κs = search needs
 
-enum-told-2 : tie.Need-enum-told-2
-enum-told-2 c = search needs
-
-refuse-link-requires-3 : tie.Need-refuse-link-requires-3
-refuse-link-requires-3 c κs = search needs
-
-enum-told-3 : tie.Need-enum-told-3
-enum-told-3 c = search needs
+enum-told : tie.Need-enum-told
+enum-told c = search needs
 
 enum-known-parsed-2 : tie.Need-enum-known-parsed-2
 enum-known-parsed-2 c = search needs
 
-blank-with-requires : tie.Need-blank-with-requires
-blank-with-requires c κs = search needs
+after-close-requires : tie.Need-after-close-requires
+after-close-requires c κs = search needs
 
 enum-known-parsed-3 : tie.Need-enum-known-parsed-3
 enum-known-parsed-3 c = search needs
@@ -45,11 +36,11 @@ enum-known-parsed-3 c = search needs
 refusal-of-requires : tie.Need-refusal-of-requires
 refusal-of-requires c κs = search needs
 
-refuse-link-requires-4 : tie.Need-refuse-link-requires-4
-refuse-link-requires-4 c κs = search needs
+refuse-link-requires-3 : tie.Need-refuse-link-requires-3
+refuse-link-requires-3 c κs = search needs
 
 returns : tie.Need-returns
-returns c = absurd (subst NoSegment (c .before .enum-told .given .1) (c .before .before .before .pre))
+returns c = c .refuse-link .ensures ∙ refused-open (c .before .before .args .link) (c .before .before .args .parsed) (c .before .before .pre) (c .before .match .keys1)
 
 returns-2 : tie.Need-returns-2
 unfolding frameStep
@@ -61,42 +52,34 @@ returns-3 c = simp (c .before .before .before .before .parsed .given .1, ← (c 
 
 returns-4 : tie.Need-returns-4
 unfolding frameStep
-returns-4 c = simp (c .before .enum-told2 .given .1, c .refuse-link3 .ensures)
+returns-4 c = simp (c .enum-told .given .1)
 
 returns-5 : tie.Need-returns-5
 unfolding frameStep
-returns-5 c = simp (c .enum-told3 .given .1)
+returns-5 c = simp (c .before .before .parsed2 .given .1, c .after-close .ensures)
 
 returns-6 : tie.Need-returns-6
 unfolding frameStep
-returns-6 c = simp (c .before .before .parsed2 .given .1, c .blank-with .ensures)
-
-returns-7 : tie.Need-returns-7
-unfolding frameStep
-returns-7 c = simp (c .before .before .before .parsed3 .given .1, c .refuse-link4 .ensures, c .before .refusal-of .ensures)
+returns-6 c = simp (c .before .before .before .parsed3 .given .1, c .refuse-link3 .ensures, c .before .refusal-of .ensures)
 
 pub step-open-spec : {M : Type 1} → statement M
 step-open-spec =
     tie.close
     (tie.spec
-    enum-told
     refuse-link-requires
     enum-known-parsed
     is-sent-by-requires
     on-acknowledgement-requires
     refuse-link-requires-2
-    enum-told-2
-    refuse-link-requires-3
-    enum-told-3
+    enum-told
     enum-known-parsed-2
-    blank-with-requires
+    after-close-requires
     enum-known-parsed-3
     refusal-of-requires
-    refuse-link-requires-4
+    refuse-link-requires-3
     returns
     returns-2
     returns-3
     returns-4
     returns-5
-    returns-6
-    returns-7)
+    returns-6)

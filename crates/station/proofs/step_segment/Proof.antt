@@ -1,8 +1,10 @@
 -- The last delivered number first, then the header.
 use borrow.Author.Needs.{needs}
-use mathlib.Core.Path.{subst}
-use Rattle.links.specs.Segments.{segmentStep}
+use mathlib.Core.Path.{_∙_, subst, sym}
+use Rattle.octets.specs.Parts.{part}
+use Rattle.station.specs.Calls.{oneLink}
 use Rattle.station.specs.Steps.{SegmentAsks}
+use Rattle.station.proofs.Laws.{delivered-last, not-delivered-last}
 use Rattle.station.proofs.step_segment.Statement.{statement}
 use Rattle.station.proofs.step_segment.Tie as tie
 
@@ -10,8 +12,10 @@ is-last-requires : tie.Need-is-last-requires
 is-last-requires c κs = search needs
 
 returns : tie.Need-returns
-unfolding segmentStep
-returns c = let l = c .if1 .taken in (simp (← (c .before .is-last .ensures), l), simp (← (c .before .is-last .ensures), l))
+returns c =
+    let a = c .before .before .before .before .before .args in
+    let q = delivered-last (oneLink (a .link) (a .part .now)) (a .segment .number) (a .segment .header) (part (a .frame .now) (a .segment .from) (a .segment .count)) (sym (c .before .is-last .ensures) ∙ c .if1 .taken) in
+    (rw q, rw q)
 
 enum-known-header : tie.Need-enum-known-header
 enum-known-header c = search needs
@@ -29,21 +33,21 @@ same-length : tie.Need-same-length
 same-length c = search needs
 
 returns-2 : tie.Need-returns-2
-unfolding segmentStep
 returns-2 c =
-    let l = c .before .before .before .before .before .before .before .if1 .left in
+    let a = c .before .before .before .before .before .before .before .before .before .before .before .before .args in
+    let q = not-delivered-last (oneLink (a .link) (a .part .now)) (a .segment .number) (a .segment .header) (part (a .frame .now) (a .segment .from) (a .segment .count)) (sym (c .before .before .before .before .before .before .before .before .is-last .ensures) ∙ c .before .before .before .before .before .before .before .if1 .left) in
     let e = c .before .before .before .before .before .header .given .1 in
-    (simp (← (c .before .before .before .before .before .before .before .before .is-last .ensures), l, e, c .before .before .on-start .ensures .0), simp (← (c .before .before .before .before .before .before .before .before .is-last .ensures), l, e, c .before .before .on-start .ensures .1))
+    (rw (q, e) (c .before .before .on-start .ensures .0), rw (q, e) (c .before .before .on-start .ensures .1))
 
 same-length-2 : tie.Need-same-length-2
 same-length-2 c = search needs
 
 returns-3 : tie.Need-returns-3
-unfolding segmentStep
 returns-3 c =
-    let l = c .before .before .before .before .before .before .before .if1 .left in
+    let a = c .before .before .before .before .before .before .before .before .before .before .before .before .args in
+    let q = not-delivered-last (oneLink (a .link) (a .part .now)) (a .segment .number) (a .segment .header) (part (a .frame .now) (a .segment .from) (a .segment .count)) (sym (c .before .before .before .before .before .before .before .before .is-last .ensures) ∙ c .before .before .before .before .before .before .before .if1 .left) in
     let e = c .before .before .before .before .before .header2 .given .1 in
-    (simp (← (c .before .before .before .before .before .before .before .before .is-last .ensures), l, e, c .before .before .on-continuation .ensures .0), simp (← (c .before .before .before .before .before .before .before .before .is-last .ensures), l, e, c .before .before .on-continuation .ensures .1))
+    (rw (q, e) (c .before .before .on-continuation .ensures .0), rw (q, e) (c .before .before .on-continuation .ensures .1))
 
 pub step-segment-spec : {M : Type 1} → statement M
 step-segment-spec =
