@@ -132,11 +132,11 @@ pub fn make_room(streams: Streams, output: &[u8], room: usize) -> Streams
     ensures { λ r. ⌜ (r .waiting ≤ length (now (output .entry)))
         × (room ≤ length (now (output .entry)) → r .waiting + room ≤ length (now (output .entry))) ⌝ }
 {
-    let waiting = streams.waiting;
-    if output.len() < waiting {
+    let text = streams.waiting;
+    if output.len() < text {
         return flush(streams, output);
     }
-    if output.len() - waiting < room {
+    if output.len() - text < room {
         return flush(streams, output);
     }
     streams
