@@ -1,15 +1,12 @@
--- Laws of the replay program's text: lines of arguments, and how an answer's line is put together.
+-- How the line of an answer is put together.
 use Prim.Native.Nat.{ℕ, _+_, _*_, _<_, _≤_}
 use native.Mathlib.Nat.{zero-add}
-use native.Mathlib.Numerals.{add-one}
 use native.Mathlib.Omega.{arith}
-use mathlib.Core.Bool.{true, false, _&&_}
+use mathlib.Core.Bool.{true}
 use mathlib.Core.List.{List, [], _∷_, _++_, append-assoc}
 use mathlib.Core.Path.{_≡_, refl, sym, ap, _∙_}
-use lib.Dec.{leb}
-use borrow.Author.Tests.{le-leb, lt-leb}
-use lib.ListN.{length, drop, set, getD, length-append}
-use lib.Seq.{drop-cons, take-length}
+use lib.ListN.{length, set, length-append}
+use lib.Seq.{take-length}
 use Rattle.octets.specs.Parts.{write, copied}
 use Rattle.octets.specs.Writing.{written, outputAfter}
 use Rattle.octets.specs.declared.Written.the-variants.{Count, WrongArgument}
@@ -17,18 +14,7 @@ use Rattle.octets.proofs.Parts.{copied-part, write-next, write-octet, write-len
 use Rattle.octets.proofs.Writing.{written-fits, output-fits, output-short}
 use Rattle.hex.specs.Hex.{textOf, encodedOutput}
 use Rattle.hex.proofs.Laws.{length-text, encoded-fits}
-use Rattle.script.specs.Script.{capitals, answerLine}
-
--- one character more, for a loop over the text
-module _ (t : List ℕ) (i : ℕ) (h : i < length t) (left : capitals (drop i t) ≡ capitals t) where
-  step : (leb (getD t i 0) 70 && capitals (drop (i + 1) t)) ≡ capitals t
-  step = sym (rw (add-one, drop-cons t i 0)) ∙ left
-
-  pub capitals-miss : 70 < getD t i 0 → false ≡ capitals t
-  capitals-miss above = rw (lt-leb (getD t i 0) 70 above) at step
-
-  pub capitals-hit : getD t i 0 ≤ 70 → capitals (drop (i + 1) t) ≡ capitals t
-  capitals-hit below = rw (le-leb (getD t i 0) 70 below) at step
+use Rattle.script.specs.Script.{answerLine}
 
 module _ (head values : List ℕ) where
   pub answer-long : length (answerLine head values) ≡ length head + 2 * length values + 1

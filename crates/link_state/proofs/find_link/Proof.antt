@@ -4,7 +4,8 @@ use borrow.Author.Needs.{needs}
 use lib.ListN.{length, drop}
 use mathlib.Core.Path.{_≡_}
 use native.Mathlib.Omega.{arith}
-use Rattle.link_state.proofs.Laws.{finds, looks-on, nothing-left}
+use Rattle.octets.proofs.Loops.{nothing-left}
+use Rattle.link_state.proofs.Laws.{finds, looks-on}
 use Rattle.links.specs.Links.{findFrom}
 use Rattle.link_state.proofs.find_link.Statement.{statement}
 use Rattle.link_state.proofs.find_link.Tie as tie
