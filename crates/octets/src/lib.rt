@@ -1,6 +1,8 @@
 // Lists of octets: big-endian numbers, copies of parts, and the answer of a writer.
 ghost use mathlib.Core.Path.{_≡_};
-ghost use Prim.Native.Nat.{_+_, _<_, _≤_};
+ghost use mathlib.Core.Bool.{true, _&&_};
+ghost use Prim.Native.Nat.{_+_, _-_, _<_, _≤_};
+ghost use lib.Dec.{leb};
 ghost use lib.ListN.{getD, length};
 ghost use Rattle.octets.specs.Numbers.{big16, big32};
 ghost use Rattle.octets.specs.Parts.{write, copyFits, copied, same, samePart};
@@ -48,6 +50,17 @@ pub fn read32(octets: &[u8], at: usize) -> u32
     }
 }
 
+// Whether so many octets from a place on are within a list of a length.
+fn fits(length: usize, at: usize, count: usize) -> bool
+    ensures { λ r. ⌜ (r ≡ (leb at length && leb count (length - at))) × (r ≡ true → at + count ≤ length) ⌝ }
+{
+    if length < at {
+        false
+    } else {
+        count <= length - at
+    }
+}
+
 fn copy_all(to: &mut [u8], at: usize, source: &[u8])
     requires { ⌜ at + length (now source) ≤ length (now to) ⌝ }
     ensures { λ r. ⌜ now (to .exit) ≡ write (now (to .entry)) at (now (source .entry)) ⌝ }
@@ -64,20 +77,13 @@ pub fn copy(to: &mut [u8], at: usize, source: &[u8], from: usize, count: usize) 
     ensures { λ r. ⌜ (r ≡ copyFits (now (to .entry)) at (now (source .entry)) from count)
         × (now (to .exit) ≡ copied (now (to .entry)) at (now (source .entry)) from count) ⌝ }
 {
-    if to.len() < at {
-        return false;
+    if fits(to.len(), at, count) {
+        if fits(source.len(), from, count) {
+            copy_all(to, at, &source[from..from + count]);
+            return true;
+        }
     }
-    if to.len() - at < count {
-        return false;
-    }
-    if source.len() < from {
-        return false;
-    }
-    if source.len() - from < count {
-        return false;
-    }
-    copy_all(to, at, &source[from..from + count]);
-    true
+    false
 }
 
 fn same_all(a: &[u8], b: &[u8]) -> bool
@@ -98,17 +104,10 @@ fn same_all(a: &[u8], b: &[u8]) -> bool
 pub fn same_part(a: &[u8], at: usize, b: &[u8], from: usize, count: usize) -> bool
     ensures { λ r. ⌜ r ≡ samePart (now (a .entry)) at (now (b .entry)) from count ⌝ }
 {
-    if a.len() < at {
-        return false;
+    if fits(a.len(), at, count) {
+        if fits(b.len(), from, count) {
+            return same_all(&a[at..at + count], &b[from..from + count]);
+        }
     }
-    if a.len() - at < count {
-        return false;
-    }
-    if b.len() < from {
-        return false;
-    }
-    if b.len() - from < count {
-        return false;
-    }
-    same_all(&a[at..at + count], &b[from..from + count])
+    false
 }
