@@ -6,7 +6,7 @@ use mathlib.Core.Path.{_≡_}
 use lib.Dec.{eqb}
 use lib.ListN.{length, replicate}
 use Rattle.fcs.specs.Fcs.{checkOctet}
-use Rattle.pb_adv.specs.Segments.{segN}
+use Rattle.transactions.specs.Segments.{segN}
 use Rattle.beacon.specs.Rules.{outOfWindow}
 use Rattle.beacon.specs.declared.Subnet.the-variants.{Primary}
 use Rattle.octets.specs.Parts.{same}

@@ -21,10 +21,10 @@ use Rattle.octets.proofs.Writing.{written-fits, wrote}
 use Rattle.hex.specs.Hex.{isHexadecimal, octetsOf, textOf, decodedOf, decodedOutput, encodedOutput}
 use Rattle.hex.specs.declared.Decoded.the-variants.{Octets}
 use Rattle.hex.proofs.Laws.{length-text, length-octets, encoded-fits}
-use Rattle.pb_adv.specs.Segments.{segN, segmentPlace}
+use Rattle.transactions.specs.Segments.{segN, segmentPlace}
 use Rattle.pb_adv_writing.specs.Writing.{segmentFrame, headerOf, isSegment, SegmentAsked}
-use Rattle.pb_adv.specs.declared.TransactionNumber.{TransactionNumber}
-use Rattle.pb_adv.proofs.Laws.{segN-small, segN-enough, segment-begins}
+use Rattle.transactions.specs.declared.TransactionNumber.{TransactionNumber}
+use Rattle.transactions.proofs.Laws.{segN-small, segN-enough, segment-begins}
 use Rattle.pb_adv_writing.proofs.Laws.{frame-long}
 use Rattle.hex_lines.specs.Lines.{isMessage, frameLine, messageText, refusedText, lineText, told, textWritten, textOutput, lineWritten, lineOutput}
 use Rattle.hex_lines.specs.Steps.{segmentLine, firstLines}

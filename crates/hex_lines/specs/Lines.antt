@@ -8,9 +8,9 @@ use Rattle.octets.specs.Parts.{write}
 use Rattle.octets.specs.Cut.{joined}
 use Rattle.octets.specs.Told.{Told, refused, answered}
 use Rattle.hex.specs.Hex.{isHexadecimal, octetsOf, textOf}
-use Rattle.pb_adv.specs.Numbers.{numberAfter}
+use Rattle.transactions.specs.Numbers.{numberAfter}
 use Rattle.pb_adv_writing.specs.Writing.{messageFrames}
-use Rattle.pb_adv.specs.declared.TransactionNumber.{TransactionNumber}
+use Rattle.transactions.specs.declared.TransactionNumber.{TransactionNumber}
 use Rattle.hex_lines.specs.declared.LineWritten.{LineWritten}
 use Rattle.hex_lines.specs.declared.LineWritten.the-variants.{Text, OutputTooShort}
 

@@ -4,7 +4,7 @@ use mathlib.Core.List.{List, map}
 use lib.ListN.{length}
 use Rattle.octets.specs.Cut.{upTo, joined}
 use Rattle.pb_adv_writing.specs.Writing.{segmentFrame, SegmentAsked}
-use Rattle.pb_adv.specs.declared.TransactionNumber.{TransactionNumber}
+use Rattle.transactions.specs.declared.TransactionNumber.{TransactionNumber}
 use Rattle.hex_lines.specs.Lines.{frameLine}
 
 -- the line of segment k of a message

@@ -1,12 +1,12 @@
 // One line of the line program: digits in, frames as text out, the next number back.
 use hex::Decoded;
 use octets::Written;
-use pb_adv::TransactionNumber;
+use transactions::TransactionNumber;
 ghost use mathlib.Core.Path.{_≡_};
 ghost use Prim.Native.Nat.{_+_, _≤_};
 ghost use lib.ListN.{length};
 ghost use Rattle.octets.specs.Parts.{write};
-ghost use Rattle.pb_adv.specs.Numbers.{numberAfter};
+ghost use Rattle.transactions.specs.Numbers.{numberAfter};
 ghost use Rattle.hex_lines.specs.Lines.{messageText, refusedText, textWritten, textOutput, lineWritten, lineOutput};
 ghost use Rattle.hex_lines.specs.Steps.{segmentLine, LineAsked};
 
@@ -53,7 +53,7 @@ fn put_message(number: TransactionNumber, message: &[u8], output: &mut [u8]) -> 
     ensures { λ r. ⌜ (r ≡ textWritten (messageText number (now (message .entry))) (numberAfter number) (now (output .entry)))
         × (now (output .exit) ≡ textOutput (messageText number (now (message .entry))) (now (output .entry))) ⌝ }
 {
-    let last = pb_adv::last_segment(message.len() as u16) as usize;
+    let last = transactions::last_segment(message.len() as u16) as usize;
     // The first frame has 9 octets before its segment, each other one 6.
     let length = 2 * (message.len() + 9 + 6 * last) + last + 1;
     if output.len() < length {

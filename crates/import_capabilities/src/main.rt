@@ -3,7 +3,7 @@
 use import_lines::Tray;
 use lines::Streams;
 use octets::Written;
-use pb_adv::Socket;
+use transactions::Socket;
 ghost use mathlib.Core.Path.{_≡_};
 ghost use Prim.Native.Nat.{_≤_};
 ghost use lib.ListN.{length};

@@ -16,9 +16,9 @@ use Rattle.octets.proofs.Tests.{cases, both-hold}
 use Rattle.hex.specs.Hex.{allDigits, isHexadecimal, octetsOf, decodedOf, decodedOutput}
 use Rattle.hex.specs.declared.Decoded.the-variants.{Octets, NotHexadecimal, TooLong}
 use Rattle.hex.proofs.Laws.{length-octets}
-use Rattle.pb_adv.specs.Numbers.{isSocket}
+use Rattle.transactions.specs.Numbers.{isSocket}
 use Rattle.pb_adv.specs.Frame.{parsed}
-use Rattle.pb_adv.specs.declared.Socket.{Socket}
+use Rattle.transactions.specs.declared.Socket.{Socket}
 use Rattle.pb_adv.specs.declared.FrameRefusal.the-variants.{Malformed}
 use Rattle.pb_adv.specs.declared.Parsed.the-variants as P
 use Rattle.links.specs.Links.{find}

@@ -11,7 +11,7 @@ use Rattle.octets.proofs.Tests.{cases}
 use Rattle.hex.specs.Hex.{isHexadecimal, octetsOf as octetsIn}
 use Rattle.hex.proofs.Laws.{length-octets}
 use Rattle.pb_adv.specs.Frame.{linkId, segmentOctets}
-use Rattle.pb_adv.specs.declared.TransactionNumber.{TransactionNumber}
+use Rattle.transactions.specs.declared.TransactionNumber.{TransactionNumber}
 use Rattle.pb_adv.proofs.Promises.{id-back}
 use Rattle.pb_adv_writing.specs.Writing.{headerOf, segmentFrame}
 use Rattle.links.specs.Links.{find}

@@ -7,10 +7,10 @@ use lib.ListN.{length, getD, drop, set}
 use Rattle.octets.specs.Numbers.{big32}
 use Rattle.octets.specs.Parts.{part}
 use Rattle.hex.specs.Hex.{allDigits, isHexadecimal, octetsOf}
-use Rattle.pb_adv.specs.Numbers.{isSocket}
+use Rattle.transactions.specs.Numbers.{isSocket}
 use Rattle.pb_adv.specs.Frame.{linkId}
-use Rattle.pb_adv.specs.declared.Socket.{Socket}
-use Rattle.pb_adv.specs.declared.TransactionNumber.{TransactionNumber}
+use Rattle.transactions.specs.declared.Socket.{Socket}
+use Rattle.transactions.specs.declared.TransactionNumber.{TransactionNumber}
 use Rattle.links.specs.Links.{find, refusalNumber}
 use Rattle.links.specs.Station.{Station, received, localOpen}
 use Rattle.links.specs.declared.Side.the-variants.{Provisioner}

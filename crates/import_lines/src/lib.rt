@@ -4,11 +4,11 @@ mod steps;
 
 use links::Link;
 use octets::Written;
-use pb_adv::TransactionNumber;
 use provisioning::Capabilities;
 pub use steps::import_line;
 pub use steps::missing_line;
 pub use steps::new_tray;
+use transactions::TransactionNumber;
 
 // The link records of a tray, and for each socket whether it was opened and has had no record line since.
 pub struct Tray {

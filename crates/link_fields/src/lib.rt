@@ -2,7 +2,7 @@
 use links::LastDelivered;
 use links::LinkState;
 use links::Side;
-use pb_adv::TransactionNumber;
+use transactions::TransactionNumber;
 ghost use mathlib.Core.Path.{_≡_};
 ghost use mathlib.Core.Bool.{cond};
 ghost use lib.Dec.{leb};

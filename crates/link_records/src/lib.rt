@@ -5,7 +5,7 @@ use links::LastDelivered;
 use links::Link;
 use links::LinkState;
 use links::Refusal;
-use pb_adv::TransactionNumber;
+use transactions::TransactionNumber;
 ghost use mathlib.Core.Path.{_≡_};
 ghost use lib.ListN.{getD};
 ghost use Rattle.links.specs.Links.{blankWith, withSending};

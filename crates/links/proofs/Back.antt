@@ -7,7 +7,7 @@ use lib.ListN.{length}
 use lib.Seq.{append-snoc}
 use borrow.Author.Tests.{eq-eqb}
 use Rattle.octets.proofs.Tests.{cases}
-use Rattle.pb_adv.specs.Segments.{segN}
+use Rattle.transactions.specs.Segments.{segN}
 use Rattle.links.specs.Station.{Station}
 use Rattle.links.specs.Interleaving.{All}
 use Rattle.links.specs.Demand3.{Message, Call, segmentsFor, sinceStart, octetsOf, Premises, Right, AllCome, First}

@@ -15,9 +15,9 @@ use Rattle.octets.proofs.Parts.{write-length, same-refl}
 use Rattle.octets.proofs.Cut.{place-up, last-begins, last-enough, piece-fits, piece-same, piece-other, equal-pieces}
 use Rattle.octets.proofs.Tests.{cases, both}
 use Rattle.fcs.specs.Fcs.{checkOctet}
-use Rattle.pb_adv.specs.Segments.{segN, segmentPlace, segmentLength, segment}
-use Rattle.pb_adv.specs.declared.TransactionNumber.{TransactionNumber}
-use Rattle.pb_adv.proofs.Laws.{segment-long, segment-begins}
+use Rattle.transactions.specs.Segments.{segN, segmentPlace, segmentLength, segment}
+use Rattle.transactions.specs.declared.TransactionNumber.{TransactionNumber}
+use Rattle.transactions.proofs.Laws.{segment-long, segment-begins}
 use Rattle.pb_adv_writing.specs.Writing.{headerOf}
 use Rattle.links.specs.Marks.{isMarked, withMark}
 use Rattle.links.specs.Links.{isLast, Awaits, withReceived}

@@ -10,8 +10,8 @@ use lib.ListN.{length, take}
 use borrow.Author.Tests.{eqb-true, eqb-false, eq-eqb}
 use Rattle.octets.specs.Parts.{part}
 use Rattle.octets.proofs.Tests.{cases, both}
-use Rattle.pb_adv.specs.Segments.{segN, segment}
-use Rattle.pb_adv.specs.declared.TransactionNumber.{TransactionNumber}
+use Rattle.transactions.specs.Segments.{segN, segment}
+use Rattle.transactions.specs.declared.TransactionNumber.{TransactionNumber}
 use Rattle.pb_adv_writing.specs.Writing.{headerOf, SegmentAsked}
 use Rattle.pb_adv_writing.proofs.Promises.{parsed-frame, carried-frame, segment-fits}
 use Rattle.links.specs.Links.{Awaits, inUse, find}

@@ -14,13 +14,13 @@ use Rattle.octets.proofs.Parts.{write-length}
 use Rattle.octets.proofs.Cut.{place-up, piece-fits}
 use Rattle.octets.proofs.Tests.{cases, both-hold, holds-both}
 use Rattle.fcs.specs.Fcs.{checkOctet}
-use Rattle.pb_adv.specs.Numbers.{numberAfter}
-use Rattle.pb_adv.specs.Segments.{segN, segmentPlace, segmentLength}
+use Rattle.transactions.specs.Numbers.{numberAfter}
+use Rattle.transactions.specs.Segments.{segN, segmentPlace, segmentLength}
 use Rattle.pb_adv.specs.Promises.{Fits}
 use Rattle.pb_adv.specs.Frame.{parsed}
-use Rattle.pb_adv.proofs.Laws.{segment-begins}
+use Rattle.transactions.proofs.Laws.{segment-begins}
 use Rattle.pb_adv.proofs.Promises.{segments-are-encodings}
-use Rattle.pb_adv.specs.declared.TransactionNumber.{TransactionNumber}
+use Rattle.transactions.specs.declared.TransactionNumber.{TransactionNumber}
 use Rattle.pb_adv.specs.declared.SegmentHeader.{SegmentHeader}
 use Rattle.pb_adv.specs.declared.Parsed.{Parsed}
 use Rattle.pb_adv.specs.declared.Parsed.the-variants as P

@@ -11,10 +11,10 @@ use borrow.Author.Tests.{eqb-true, eqb-false}
 use Rattle.octets.specs.Numbers.{Octets}
 use Rattle.octets.specs.Parts.{part}
 use Rattle.octets.proofs.Tests.{cases, both-hold}
-use Rattle.pb_adv.specs.Segments.{segN}
+use Rattle.transactions.specs.Segments.{segN}
 use Rattle.pb_adv.specs.Frame.{parsed, segmentOctets}
 use Rattle.pb_adv.specs.Promises.{Fits}
-use Rattle.pb_adv.specs.declared.TransactionNumber.{TransactionNumber}
+use Rattle.transactions.specs.declared.TransactionNumber.{TransactionNumber}
 use Rattle.pb_adv.specs.declared.Segment.{Segment}
 use Rattle.pb_adv.specs.declared.Parsed.{Parsed}
 use Rattle.pb_adv.specs.declared.Parsed.the-variants as P

@@ -14,10 +14,10 @@ use Rattle.octets.specs.Parts.{part, write}
 use Rattle.octets.specs.Told.{Told, refused, answered}
 use Rattle.octets.proofs.Tests.{cases, both-hold}
 use Rattle.fcs.specs.Fcs.{checkOctet}
-use Rattle.pb_adv.specs.Numbers.{isSocket}
-use Rattle.pb_adv.specs.Segments.{isLength, segN, segmentPlace}
+use Rattle.transactions.specs.Numbers.{isSocket}
+use Rattle.transactions.specs.Segments.{isLength, segN, segmentPlace}
 use Rattle.pb_adv.specs.Frame.{parsed, indexOf, toldSegment, told as frameTold}
-use Rattle.pb_adv.specs.declared.Socket.{Socket}
+use Rattle.transactions.specs.declared.Socket.{Socket}
 use Rattle.pb_adv.specs.declared.SegmentHeader.{SegmentHeader}
 use Rattle.pb_adv.specs.declared.SegmentHeader.the-variants.{Start, Continuation}
 use Rattle.pb_adv.specs.declared.Segment.{Segment}

@@ -13,9 +13,9 @@ use Rattle.octets.proofs.Parts.{write-length}
 use Rattle.octets.proofs.Cut.{place-up, piece-take}
 use Rattle.octets.proofs.Tests.{cases}
 use Rattle.fcs.specs.Fcs.{checkOctet}
-use Rattle.pb_adv.specs.Segments.{segN, segmentPlace, segmentLength, segment}
+use Rattle.transactions.specs.Segments.{segN, segmentPlace, segmentLength, segment}
 use Rattle.pb_adv.specs.Promises.{Fits}
-use Rattle.pb_adv.specs.declared.TransactionNumber.{TransactionNumber}
+use Rattle.transactions.specs.declared.TransactionNumber.{TransactionNumber}
 use Rattle.pb_adv.specs.declared.SegmentHeader.{SegmentHeader}
 use Rattle.pb_adv_writing.specs.Writing.{headerOf}
 use Rattle.links.specs.Marks.{isMarked, withMark, allMarked}

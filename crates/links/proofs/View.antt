@@ -11,10 +11,10 @@ use Rattle.octets.specs.Parts.{same}
 use Rattle.octets.specs.Cut.{piece}
 use Rattle.octets.specs.Told.{Told, refused, answered}
 use Rattle.octets.proofs.Tests.{cases, both-hold}
-use Rattle.pb_adv.specs.Segments.{segN, segmentPlace, segmentLength}
+use Rattle.transactions.specs.Segments.{segN, segmentPlace, segmentLength}
 use Rattle.pb_adv.specs.Frame.{indexOf}
 use Rattle.pb_adv.specs.Promises.{Fits}
-use Rattle.pb_adv.specs.declared.TransactionNumber.{TransactionNumber}
+use Rattle.transactions.specs.declared.TransactionNumber.{TransactionNumber}
 use Rattle.pb_adv.specs.declared.SegmentHeader.{SegmentHeader}
 use Rattle.pb_adv.specs.declared.SegmentHeader.the-variants.{Start, Continuation}
 use Rattle.links.specs.Marks.{isMarked}

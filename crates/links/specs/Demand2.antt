@@ -5,9 +5,9 @@ use mathlib.Core.List.{List, [], _∷_, _++_, map, List·Memᴰ}
 use mathlib.Core.Path.{_≡_}
 use lib.ListN.{length, take}
 use Rattle.octets.specs.Numbers.{Octets}
-use Rattle.pb_adv.specs.Segments.{segN}
+use Rattle.transactions.specs.Segments.{segN}
 use Rattle.pb_adv.specs.Frame.{parsed}
-use Rattle.pb_adv.specs.declared.TransactionNumber.{TransactionNumber}
+use Rattle.transactions.specs.declared.TransactionNumber.{TransactionNumber}
 use Rattle.pb_adv_writing.specs.Writing.{segmentFrame}
 use Rattle.links.specs.Station.{Station, getLink, received}
 use Rattle.links.specs.Interleaving.{All, stateAfter}

@@ -3,7 +3,7 @@
 use mathlib.Core.Bool.{Bool, true, false, _&&_, not}
 use mathlib.Core.List.{List, [], _∷_}
 use lib.Dec.{eqb}
-use Rattle.pb_adv.specs.Segments.{isLength, segN}
+use Rattle.transactions.specs.Segments.{isLength, segN}
 use Rattle.links.specs.Marks.{isMarked, allMarked, noneAbove}
 use Rattle.links.specs.Links.{peer, sends, firstNumber, isLast, inUse}
 use Rattle.links.specs.declared.Side.{Side}

@@ -9,9 +9,9 @@ use lib.ListN.{length, getD, set}
 use Rattle.octets.specs.Numbers.{Octets}
 use Rattle.octets.specs.Parts.{part, write}
 use Rattle.octets.specs.Told.{refused}
-use Rattle.pb_adv.specs.Segments.{segmentPlace}
+use Rattle.transactions.specs.Segments.{segmentPlace}
 use Rattle.pb_adv.specs.Frame.{parsed, indexOf, told as frameTold}
-use Rattle.pb_adv.specs.declared.Socket.{Socket}
+use Rattle.transactions.specs.declared.Socket.{Socket}
 use Rattle.pb_adv.specs.declared.Segment.{Segment}
 use Rattle.pb_adv.specs.declared.Parsed.{Parsed}
 use Rattle.pb_adv.specs.declared.Parsed.the-variants as P

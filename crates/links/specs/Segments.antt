@@ -7,8 +7,8 @@ use lib.ListN.{length, take}
 use Rattle.octets.specs.Parts.{write, same}
 use Rattle.octets.specs.Cut.{piece}
 use Rattle.fcs.specs.Fcs.{checkOctet}
-use Rattle.pb_adv.specs.Segments.{segN, segmentPlace, segmentLength}
-use Rattle.pb_adv.specs.declared.TransactionNumber.{TransactionNumber}
+use Rattle.transactions.specs.Segments.{segN, segmentPlace, segmentLength}
+use Rattle.transactions.specs.declared.TransactionNumber.{TransactionNumber}
 use Rattle.pb_adv.specs.declared.SegmentHeader.{SegmentHeader}
 use Rattle.pb_adv.specs.declared.SegmentHeader.the-variants.{Start, Continuation}
 use Rattle.links.specs.Marks.{isMarked, withMark, allMarked}

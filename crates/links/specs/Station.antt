@@ -5,11 +5,11 @@ use mathlib.Core.List.{List}
 use lib.Dec.{eqb}
 use lib.ListN.{length, getD, set}
 use Rattle.octets.specs.Parts.{part, write}
-use Rattle.pb_adv.specs.Numbers.{numberAfter, isSocket}
-use Rattle.pb_adv.specs.Segments.{isLength, segN}
+use Rattle.transactions.specs.Numbers.{numberAfter, isSocket}
+use Rattle.transactions.specs.Segments.{isLength, segN}
 use Rattle.pb_adv.specs.Frame.{parsed}
-use Rattle.pb_adv.specs.declared.TransactionNumber.{TransactionNumber}
-use Rattle.pb_adv.specs.declared.Socket.{Socket}
+use Rattle.transactions.specs.declared.TransactionNumber.{TransactionNumber}
+use Rattle.transactions.specs.declared.Socket.{Socket}
 use Rattle.pb_adv.specs.declared.FrameRefusal.{FrameRefusal}
 use Rattle.pb_adv.specs.declared.FrameRefusal.the-variants as F
 use Rattle.pb_adv.specs.declared.Parsed.{Parsed}

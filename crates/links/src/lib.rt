@@ -1,6 +1,6 @@
 // The link records of a station and the answers of its calls. The rules over them are specs/, the promises proofs/; the code that
 // runs them is in the crates local_calls and station.
-use pb_adv::TransactionNumber;
+use transactions::TransactionNumber;
 
 // The end of the links that a record is of.
 pub enum Side {

@@ -6,9 +6,9 @@ use mathlib.Core.Path.{_≡_}
 use lib.ListN.{length}
 use borrow.Author.Tests.{le-leb, leb-true}
 use Rattle.octets.proofs.Tests.{both-hold}
-use Rattle.pb_adv.specs.Numbers.{isSocket}
-use Rattle.pb_adv.specs.Segments.{isLength, segN}
-use Rattle.pb_adv.specs.declared.Socket.{Socket}
+use Rattle.transactions.specs.Numbers.{isSocket}
+use Rattle.transactions.specs.Segments.{isLength, segN}
+use Rattle.transactions.specs.declared.Socket.{Socket}
 use Rattle.links.specs.Links.{withSending}
 use Rattle.links.specs.Station.{isOpen, linkAt, withLink, localSend}
 use Rattle.links.specs.declared.Side.the-variants.{Provisioner}

@@ -3,7 +3,7 @@ use Prim.Native.Nat.{_≤_}
 use mathlib.Core.Bool.{true}
 use mathlib.Core.List.{List}
 use mathlib.Core.Path.{_≡_}
-use Rattle.pb_adv.specs.declared.Socket.{Socket}
+use Rattle.transactions.specs.declared.Socket.{Socket}
 use Rattle.links.specs.Good.{good}
 use Rattle.links.specs.declared.Side.the-variants.{Provisioner}
 use Rattle.links.specs.declared.Link.{Link}

@@ -11,11 +11,11 @@ use links::Link;
 use links::LinkState;
 use links::Refusal;
 use links::Side;
-use pb_adv::Socket;
+use transactions::Socket;
 ghost use Prim.Native.Nat.{_-_, _≤_, _<_};
 ghost use mathlib.Core.Path.{_≡_};
 ghost use lib.ListN.{replicate};
-ghost use Rattle.pb_adv.specs.Segments.{isLength};
+ghost use Rattle.transactions.specs.Segments.{isLength};
 ghost use Rattle.links.specs.Links.{blank};
 ghost use Rattle.links.specs.Station.{localOpen, localSend, localClose};
 ghost use Rattle.links.specs.declared.Side.the-variants.{Provisioner};
@@ -84,7 +84,7 @@ fn send_at(links: [Link; 8], socket: Socket, length: u16) -> Received
             return refuse_call(links, Refusal::Outstanding);
         }
         let number = link.next;
-        let last = pb_adv::last_segment(length);
+        let last = transactions::last_segment(length);
         let sending = link_records::with_sending(link, number, true);
         return store(
             links,

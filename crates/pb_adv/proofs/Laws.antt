@@ -1,38 +1,14 @@
--- Laws of segments and of the reading of frames.
-use Prim.Native.Nat.{ℕ, _+_, _*_, _≤_, _<_, min}
-use native.Mathlib.Omega.{arith}
+-- A law of the reading of frames.
+use Prim.Native.Nat.{ℕ, _+_, _≤_, min}
 use mathlib.Core.Bool.{true}
 use mathlib.Core.List.{List}
-use mathlib.Core.Path.{_≡_, refl}
+use mathlib.Core.Path.{_≡_}
 use lib.ListN.{length}
 use borrow.Author.Tests.{leb-true, eqb-true}
 use Rattle.octets.specs.Numbers.{big16}
-use Rattle.octets.proofs.Cut.{place-up, last-enough, last-least, piece-length, piece-begins}
 use Rattle.octets.proofs.Tests.{both-hold}
-use Rattle.pb_adv.specs.Segments.{segN, segmentPlace, segmentLength, segment}
+use Rattle.transactions.specs.Segments.{segN}
 use Rattle.pb_adv.specs.Frame.{isStart, highBits}
-
--- ---- SegN and the places of segments
-
--- SegN is the least number with L at most 20 + 23 SegN
-pub segN-enough : (n : ℕ) → n ≤ 20 + 23 * segN n
-segN-enough n = last-enough 20 23 n (omega arith)
-
-pub segN-least : (n k : ℕ) → n ≤ 20 + 23 * k → segN n ≤ k
-segN-least n k h = last-least 20 23 n k (omega arith) h
-
--- at most 63 for a message that is not too long
-pub segN-small : (n : ℕ) → n ≤ 1469 → segN n ≤ 63
-segN-small n h = omega arith
-
--- each segment begins before the end of the message
-pub segment-begins : (n k : ℕ) → 0 < n → k ≤ segN n → segmentPlace k < n
-segment-begins n k some h = piece-begins 20 23 n k (omega arith) some h
-
-pub segment-long : (m : List ℕ) (k : ℕ) → length (segment m k) ≡ segmentLength (length m) k
-segment-long m k = piece-length segmentPlace refl (place-up 20 23) (length m) m k (omega arith)
-
--- ---- reading
 
 -- what a Start that fits its kind tells
 pub record StartFits (f : List ℕ) : Type 0 where

@@ -10,10 +10,10 @@ use lib.Seq.{take-length, take-all}
 use borrow.Author.Tests.{le-leb, eq-eqb, leb-true, eqb-true}
 use Rattle.octets.specs.Numbers.{Octets, big16, big32}
 use Rattle.octets.proofs.Tests.{cases, both-hold}
-use Rattle.pb_adv.specs.Segments.{segN}
+use Rattle.transactions.specs.Segments.{segN}
 use Rattle.pb_adv.specs.Frame.{parsed, byKind, isStart, carried, highBits, segmentFrom, controlOf, frameOctets, segmentOctets}
 use Rattle.pb_adv.specs.Promises.{segmentSaid, Fits, IsEncoding, SegmentsAreEncodings}
-use Rattle.pb_adv.specs.declared.TransactionNumber.{TransactionNumber}
+use Rattle.transactions.specs.declared.TransactionNumber.{TransactionNumber}
 use Rattle.pb_adv.specs.declared.SegmentHeader.{SegmentHeader}
 use Rattle.pb_adv.specs.declared.SegmentHeader.the-variants.{Start, Continuation}
 use Rattle.pb_adv.specs.declared.Parsed.{Parsed}

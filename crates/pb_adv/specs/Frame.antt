@@ -7,8 +7,8 @@ use lib.ListN.{length, getD}
 use Rattle.octets.specs.Numbers.{big16, big32, octets16, octets32}
 use Rattle.octets.specs.Parts.{part}
 use Rattle.octets.specs.Told.{Told, refused, answered}
-use Rattle.pb_adv.specs.Segments.{isLength, segN}
-use Rattle.pb_adv.specs.declared.TransactionNumber.{TransactionNumber}
+use Rattle.transactions.specs.Segments.{isLength, segN}
+use Rattle.transactions.specs.declared.TransactionNumber.{TransactionNumber}
 use Rattle.pb_adv.specs.declared.SegmentHeader.{SegmentHeader}
 use Rattle.pb_adv.specs.declared.SegmentHeader.the-variants.{Start, Continuation}
 use Rattle.pb_adv.specs.declared.Segment.{Segment}
@@ -124,6 +124,10 @@ segmentOctets id t (Continuation k) d = frameOctets id (t .0) (4 * k + 2) d
 
 unfoldable pub acknowledgementOctets : ℕ → TransactionNumber → List ℕ
 acknowledgementOctets id t = frameOctets id (t .0) 1 []
+
+-- a UUID has 16 octets
+abbrev pub isUuid : List ℕ → Bool
+isUuid u = eqb (length u) 16
 
 -- the frames of kind 3 have "number written 0"
 unfoldable pub openOctets : ℕ → List ℕ → List ℕ

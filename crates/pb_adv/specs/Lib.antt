@@ -1,4 +1,2 @@
-pub mod Numbers
-pub mod Segments
 pub mod Frame
 pub mod Promises

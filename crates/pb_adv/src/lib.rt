@@ -1,18 +1,8 @@
-// PB-ADV frames: what octets say as a frame, and where the segments of a message stand.
-mod numbers;
+// PB-ADV frames: what octets say as a frame.
 mod parsing;
-mod segments;
 
 pub use parsing::parse;
-pub use segments::last_segment;
-pub use segments::segment_length;
-pub use segments::segment_place;
-
-// A transaction number: 0x00 to 0x7F from the provisioner, 0x80 to 0xFF from the device.
-pub struct TransactionNumber(pub u8);
-
-// A socket of the station, counted from 1. Never a transaction number.
-pub struct Socket(pub u8);
+use transactions::TransactionNumber;
 
 // What stands before the octets of a segment.
 pub enum SegmentHeader {

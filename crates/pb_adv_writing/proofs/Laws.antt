@@ -7,10 +7,10 @@ use mathlib.Core.Path.{_≡_, refl}
 use lib.ListN.{length}
 use borrow.Author.Tests.{leb-true}
 use Rattle.octets.proofs.Tests.{both-hold}
-use Rattle.pb_adv.specs.Segments.{segN, segmentLength, segment}
+use Rattle.transactions.specs.Segments.{segN, segmentLength, segment}
 use Rattle.pb_adv.specs.Frame.{headerLength, frameOctets, segmentOctets}
-use Rattle.pb_adv.specs.declared.TransactionNumber.{TransactionNumber}
-use Rattle.pb_adv.proofs.Laws.{segment-long}
+use Rattle.transactions.specs.declared.TransactionNumber.{TransactionNumber}
+use Rattle.transactions.proofs.Laws.{segment-long}
 use Rattle.pb_adv_writing.specs.Writing.{headerOf, segmentFrame, isSegment, SegmentAsked}
 
 -- the frame of a further segment

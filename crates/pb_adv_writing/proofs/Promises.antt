@@ -13,14 +13,14 @@ use Rattle.octets.specs.Cut.{upTo, placed}
 use Rattle.octets.proofs.Writing.{wrote}
 use Rattle.octets.proofs.Cut.{placed-cut, map-up-to}
 use Rattle.octets.proofs.Tests.{both-hold}
-use Rattle.pb_adv.specs.Segments.{segN, segmentPlace, segment}
-use Rattle.pb_adv.specs.Frame.{parsed, carried, indexOf, acknowledgementOctets, openOctets, ackOctets, closeOctets, controlOf}
+use Rattle.transactions.specs.Segments.{segN, segmentPlace, segment}
+use Rattle.pb_adv.specs.Frame.{parsed, carried, indexOf, acknowledgementOctets, openOctets, ackOctets, closeOctets, controlOf, isUuid}
 use Rattle.pb_adv.specs.Promises.{segmentSaid, Fits}
-use Rattle.pb_adv.specs.declared.TransactionNumber.{TransactionNumber}
+use Rattle.transactions.specs.declared.TransactionNumber.{TransactionNumber}
 use Rattle.pb_adv.specs.declared.Parsed.{Parsed}
-use Rattle.pb_adv.proofs.Laws.{segment-begins, segN-small, segment-long}
+use Rattle.transactions.proofs.Laws.{segment-begins, segN-small, segment-long}
 use Rattle.pb_adv.proofs.Promises.{id-back, by-kind, parsed-segment, carried-segment}
-use Rattle.pb_adv_writing.specs.Writing.{headerOf, segmentFrame, isSegment, isUuid, SegmentAsked}
+use Rattle.pb_adv_writing.specs.Writing.{headerOf, segmentFrame, isSegment, SegmentAsked}
 use Rattle.pb_adv_writing.specs.Promises.{GivesBack, WritersGiveBack, putSegment, putFrames, CutJoins}
 use Rattle.pb_adv_writing.proofs.Laws.{segment-asked}
 
@@ -84,9 +84,9 @@ index-back m zero = refl
 index-back m (suc k) = refl
 
 -- one frame of the cut writes its segment at its place
-put-frame : (id : ℕ) (t : TransactionNumber) (m p : List ℕ) (k : ℕ) → SegmentAsked m k
+write-frame : (id : ℕ) (t : TransactionNumber) (m p : List ℕ) (k : ℕ) → SegmentAsked m k
     → putSegment p (segmentFrame id t m k) (parsed (segmentFrame id t m k)) ≡ write p (segmentPlace k) (segment m k)
-put-frame id t m p k a =
+write-frame id t m p k a =
     rw (parsed-frame id t m k a, index-back m k) (ap (write p (segmentPlace k)) (carried-frame id t m k))
 
 -- the first k frames write the first k segments
@@ -97,7 +97,7 @@ put-front id t m p some few zero b = refl
 put-front id t m p some few (suc k) b =
     ap (putFrames p) (map-up-to (segmentFrame id t m) k)
     ∙ put-append p (map (segmentFrame id t m) (upTo k)) (segmentFrame id t m k ∷ [])
-    ∙ put-frame id t m (putFrames p (map (segmentFrame id t m) (upTo k))) k (record { some-octets = some; few-octets = few; index = omega arith })
+    ∙ write-frame id t m (putFrames p (map (segmentFrame id t m) (upTo k))) k (record { some-octets = some; few-octets = few; index = omega arith })
     ∙ rw (put-front id t m p some few k (omega arith))
 
 pub cut-joins : CutJoins

@@ -7,13 +7,13 @@ use lib.ListN.{length, take, drop}
 use Rattle.octets.specs.Parts.{part, write}
 use Rattle.octets.specs.Writing.{written, outputAfter}
 use Rattle.octets.specs.declared.Written.the-variants.{Count}
-use Rattle.pb_adv.specs.Segments.{isLength, segmentPlace, segment}
-use Rattle.pb_adv.specs.Frame.{parsed, carried, indexOf, acknowledgementOctets, openOctets, ackOctets, closeOctets}
+use Rattle.transactions.specs.Segments.{isLength, segmentPlace, segment}
+use Rattle.pb_adv.specs.Frame.{parsed, carried, indexOf, acknowledgementOctets, openOctets, ackOctets, closeOctets, isUuid}
 use Rattle.pb_adv.specs.Promises.{segmentSaid}
-use Rattle.pb_adv.specs.declared.TransactionNumber.{TransactionNumber}
+use Rattle.transactions.specs.declared.TransactionNumber.{TransactionNumber}
 use Rattle.pb_adv.specs.declared.Parsed.{Parsed}
 use Rattle.pb_adv.specs.declared.Parsed.the-variants as P
-use Rattle.pb_adv_writing.specs.Writing.{headerOf, segmentFrame, isSegment, messageFrames, isUuid}
+use Rattle.pb_adv_writing.specs.Writing.{headerOf, segmentFrame, isSegment, messageFrames}
 
 -- parsing what a writer wrote gives a frame back, with the octets that it carries
 abbrev pub GivesBack : Bool → List ℕ → List ℕ → Parsed → List ℕ → Type 0

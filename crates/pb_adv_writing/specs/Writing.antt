@@ -2,13 +2,13 @@
 use Prim.Native.Nat.{ℕ, zero, suc, _≤_}
 use mathlib.Core.Bool.{Bool, _&&_}
 use mathlib.Core.List.{List, map}
-use lib.Dec.{leb, eqb}
+use lib.Dec.{leb}
 use lib.ListN.{length}
 use Rattle.octets.specs.Cut.{upTo}
 use Rattle.fcs.specs.Fcs.{checkOctet}
-use Rattle.pb_adv.specs.Segments.{isLength, segN, segment}
+use Rattle.transactions.specs.Segments.{isLength, segN, segment}
 use Rattle.pb_adv.specs.Frame.{segmentOctets}
-use Rattle.pb_adv.specs.declared.TransactionNumber.{TransactionNumber}
+use Rattle.transactions.specs.declared.TransactionNumber.{TransactionNumber}
 use Rattle.pb_adv.specs.declared.SegmentHeader.{SegmentHeader}
 use Rattle.pb_adv.specs.declared.SegmentHeader.the-variants.{Start, Continuation}
 
@@ -28,10 +28,6 @@ isSegment m k = isLength (length m) && leb k (segN (length m))
 -- THE CUT OF A MESSAGE: the frames of its segments, in order
 abbrev pub messageFrames : ℕ → TransactionNumber → List ℕ → List (List ℕ)
 messageFrames id t m = map (segmentFrame id t m) (upTo (suc (segN (length m))))
-
--- a UUID has 16 octets
-abbrev pub isUuid : List ℕ → Bool
-isUuid u = eqb (length u) 16
 
 -- what the writing of segment k asks: a message of a right length, and an index of at most SegN
 pub record SegmentAsked (m : List ℕ) (k : ℕ) : Type 0 where

@@ -4,8 +4,8 @@ use libc::STDOUT_FILENO;
 use links::Answer;
 use links::Link;
 use octets::Written;
-use pb_adv::Socket;
-use pb_adv::TransactionNumber;
+use transactions::Socket;
+use transactions::TransactionNumber;
 
 // How often each answer was given.
 struct Tally {
@@ -75,7 +75,7 @@ fn open_link(tray: Tray, area: &mut [u8], socket: u8) -> Tray {
         tally: tally,
     };
     let mut frame = [0u8; 29];
-    let Written::Count(n) = pb_adv_writing::write_ack(id_of(socket), &mut frame) else {
+    let Written::Count(n) = control_writing::write_ack(id_of(socket), &mut frame) else {
         return opening;
     };
     bring(opening, area, &frame, n)

@@ -11,8 +11,8 @@ use links::LinkState;
 use octets::octet_at;
 use octets::read16;
 use octets::read32;
-use pb_adv::TransactionNumber;
 use script::Outcome;
+use transactions::TransactionNumber;
 
 // The records after an operation, and what it came to.
 pub(super) struct Records {

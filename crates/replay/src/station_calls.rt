@@ -8,9 +8,9 @@ use links::Link;
 use octets::octet_at;
 use octets::read16;
 use octets::read32;
-use pb_adv::Socket;
-use pb_adv::TransactionNumber;
 use script::Outcome;
+use transactions::Socket;
+use transactions::TransactionNumber;
 
 fn letter(letter: u8) -> Outcome {
     Outcome::Values {

@@ -5,8 +5,8 @@ use octets::Written;
 use octets::octet_at;
 use octets::read16;
 use octets::read32;
-use pb_adv::TransactionNumber;
 use script::Outcome;
+use transactions::TransactionNumber;
 
 // What a writer wrote: its length, and the octets from the start of the output.
 fn outcome_of(written: Written, output: &[u8], values: &mut [u8]) -> Outcome {
@@ -37,7 +37,7 @@ fn open(x: &[u8], output: &mut [u8]) -> Written {
     if x.len() < 6 {
         return Written::WrongArgument;
     }
-    pb_adv_writing::write_open(read32(x, 2), &x[6..], output)
+    control_writing::write_open(read32(x, 2), &x[6..], output)
 }
 
 fn piece(x: &[u8], output: &mut [u8]) -> Written {
@@ -58,8 +58,8 @@ fn written_by(operation: u8, x: &[u8], output: &mut [u8]) -> Written {
             output,
         ),
         b'O' => open(x, output),
-        b'A' => pb_adv_writing::write_ack(read32(x, 2), output),
-        _ => pb_adv_writing::write_close(read32(x, 2), octet_at(x, 6), output),
+        b'A' => control_writing::write_ack(read32(x, 2), output),
+        _ => control_writing::write_close(read32(x, 2), octet_at(x, 6), output),
     }
 }
 
@@ -129,7 +129,7 @@ pub(super) fn last_segment(x: &[u8], values: &mut [u8]) -> Outcome {
     }
     let length = read16(x, 0);
     if is_length(length as usize) {
-        let last = pb_adv::last_segment(length);
+        let last = transactions::last_segment(length);
         return number_outcome((last % 256) as u8, values);
     }
     Outcome::Refused(11)

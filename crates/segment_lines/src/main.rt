@@ -1,7 +1,7 @@
 // Reads a message a line in hexadecimal from standard input, and writes the frames of its cut, one a line, to standard output.
 use hex_lines::LineWritten;
 use lines::Streams;
-use pb_adv::TransactionNumber;
+use transactions::TransactionNumber;
 ghost use Prim.Native.Nat.{_≤_};
 ghost use lib.ListN.{length};
 ghost use Rattle.segment_lines.specs.Progress.{Kept};

@@ -18,12 +18,12 @@ use Rattle.fcs.specs.Fcs.{checkOctet}
 use Rattle.pb_adv.proofs.Parsed.{the-type}
 use Rattle.pb_adv.specs.Frame.{parsed}
 use Rattle.pb_adv.specs.Promises.{Fits, IsEncoding}
-use Rattle.pb_adv.specs.Segments.{segN, segmentPlace, segmentLength}
-use Rattle.pb_adv.proofs.Laws.{segment-begins}
+use Rattle.transactions.specs.Segments.{segN, segmentPlace, segmentLength}
+use Rattle.transactions.proofs.Laws.{segment-begins}
 use Rattle.pb_adv.specs.declared.SegmentHeader.{SegmentHeader}
 use Rattle.pb_adv.specs.declared.SegmentHeader.the-variants.{Start, Continuation}
 use Rattle.pb_adv.specs.declared.Segment.{Segment}
-use Rattle.pb_adv.specs.declared.TransactionNumber.{TransactionNumber}
+use Rattle.transactions.specs.declared.TransactionNumber.{TransactionNumber}
 use Rattle.pb_adv.specs.declared.Parsed.{Parsed}
 use Rattle.pb_adv.specs.declared.Parsed.the-variants as P
 use Rattle.links.specs.Marks.{isMarked, withMark, allMarked}

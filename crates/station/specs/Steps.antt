@@ -8,7 +8,7 @@ use lib.ListN.{length, take}
 use Rattle.octets.specs.Parts.{part, samePart}
 use Rattle.fcs.specs.Fcs.{checkOctet}
 use Rattle.pb_adv.specs.Promises.{Fits}
-use Rattle.pb_adv.specs.Segments.{segN, segmentPlace, segmentLength}
+use Rattle.transactions.specs.Segments.{segN, segmentPlace, segmentLength}
 use Rattle.pb_adv.specs.declared.SegmentHeader.{SegmentHeader}
 use Rattle.pb_adv.specs.declared.Segment.{Segment}
 use Rattle.pb_adv.specs.declared.Parsed.{Parsed}

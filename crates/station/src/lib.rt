@@ -18,7 +18,7 @@ use pb_adv::FrameRefusal;
 use pb_adv::Parsed;
 use pb_adv::Segment;
 use pb_adv::SegmentHeader;
-use pb_adv::TransactionNumber;
+use transactions::TransactionNumber;
 ghost use Prim.Native.Nat.{_≤_, _<_};
 ghost use mathlib.Core.List.{[]};
 ghost use mathlib.Core.Path.{_≡_};
@@ -134,7 +134,7 @@ fn complete(link: Link, message: HalfMessage, part: &[u8]) -> Stepped
     let number = message.number;
     let length = message.length;
     let last = link.last;
-    if link_fields::all_marked(pb_adv::last_segment(length) as usize, message.marks) {
+    if link_fields::all_marked(transactions::last_segment(length) as usize, message.marks) {
         let n = length as usize;
         if fcs::check_octet(&part[..n]) == message.check {
             return after_segment(
@@ -171,7 +171,7 @@ fn enter(
     ensures { λ r. ⌜ (r ≡ steppedOf (enteredFrom link (now (part .entry)) message index (now (frame .entry)) from count))
         × (now (part .exit) ≡ enteredFrom link (now (part .entry)) message index (now (frame .entry)) from count .1 .part) ⌝ }
 {
-    octets::copy(part, pb_adv::segment_place(index), frame, from, count);
+    octets::copy(part, transactions::segment_place(index), frame, from, count);
     let more = mark(message, index);
     complete(link, more, &part[..])
 }
@@ -180,7 +180,7 @@ fn enter(
 fn compare(index: u16, part: &[u8], frame: &[u8], from: usize, count: usize) -> Answer
     ensures { λ r. ⌜ r ≡ compared index (now (part .entry)) (now (frame .entry)) from count ⌝ }
 {
-    if octets::same_part(part, pb_adv::segment_place(index), frame, from, count) {
+    if octets::same_part(part, transactions::segment_place(index), frame, from, count) {
         Answer::Repeat
     } else {
         Answer::Refused(Refusal::Mismatch)
@@ -202,10 +202,10 @@ fn offer(
         × (now (part .exit) ≡ offeredFrom link (now (part .entry)) message index (now (frame .entry)) from count .1 .part) ⌝ }
 {
     let length = message.length;
-    if pb_adv::last_segment(length) < index {
+    if transactions::last_segment(length) < index {
         return refuse_link(link, Refusal::Mismatch);
     }
-    if count != pb_adv::segment_length(length, index) {
+    if count != transactions::segment_length(length, index) {
         return refuse_link(link, Refusal::Mismatch);
     }
     if link_fields::is_marked(message.marks, index as usize) {
@@ -471,12 +471,18 @@ fn at_socket(
     ensures { λ r. ⌜ (r ≡ receivedOf (atFound links (now (area .entry)) (now (frame .entry)) segment (At place)))
         × (now (area .exit) ≡ atFound links (now (area .entry)) (now (frame .entry)) segment (At place) .1 .area) ⌝ }
 {
-    let link = link_at(links, place);
+    // One copy of the records, in which the record is read and stored.
+    let mut after = links;
+    let link = after[place];
     let base = 1469 * place;
     let stepped = take_segment(link, segment, &mut area[base..base + 1469], frame);
-    let after = stepped.link;
+    let next = stepped.link;
     let answer = stepped.answer;
-    store(links, place, after, answer)
+    after[place] = next;
+    Received {
+        links: after,
+        answer: answer,
+    }
 }
 
 // A segment, for the link of its Link ID.

@@ -11,9 +11,9 @@ use Rattle.octets.specs.Numbers.{Octets, octets16, octets32}
 use Rattle.octets.proofs.Tests.{cases}
 use Rattle.hex.specs.Hex.{digitOf, textOf, octetsOf}
 use Rattle.hex.proofs.Laws.{octets-back}
-use Rattle.pb_adv.specs.declared.Socket.{Socket}
+use Rattle.transactions.specs.declared.Socket.{Socket}
 use Rattle.pb_adv.proofs.Promises.{id-back}
-use Rattle.pb_adv.specs.declared.TransactionNumber.{TransactionNumber}
+use Rattle.transactions.specs.declared.TransactionNumber.{TransactionNumber}
 use Rattle.provisioning.specs.Message.{messageRead}
 use Rattle.provisioning.specs.Promises.{messageOctets}
 use Rattle.provisioning.specs.declared.Capabilities.{Capabilities}

@@ -4,8 +4,8 @@ use mathlib.Core.List.{List, [], _∷_}
 use Rattle.line_fields.specs.Lines.{ascii, lineOf}
 use Rattle.line_fields.specs.declared.Field.{Field}
 use Rattle.line_fields.specs.declared.Field.the-variants as F
-use Rattle.pb_adv.specs.declared.Socket.{Socket}
-use Rattle.pb_adv.specs.declared.TransactionNumber.{TransactionNumber}
+use Rattle.transactions.specs.declared.Socket.{Socket}
+use Rattle.transactions.specs.declared.TransactionNumber.{TransactionNumber}
 use Rattle.provisioning.specs.declared.Capabilities.{Capabilities}
 use Rattle.provisioning.specs.declared.Message.{Message}
 

@@ -9,8 +9,8 @@ use Rattle.hex_lines.specs.Lines.{messageText}
 use Rattle.hex_lines.specs.Steps.{segmentLine, firstLines}
 use Rattle.octets.proofs.Parts.{write-nothing}
 use Rattle.octets.specs.Parts.{write}
-use Rattle.pb_adv.specs.Numbers.{numberAfter}
-use Rattle.pb_adv.specs.Segments.{segN}
+use Rattle.transactions.specs.Numbers.{numberAfter}
+use Rattle.transactions.specs.Segments.{segN}
 use Rattle.hex_lines.proofs.put_message.Statement.{statement}
 use Rattle.hex_lines.proofs.put_message.Tie as tie
 

@@ -3,7 +3,7 @@ use lib.ListN.{length}
 use native.Mathlib.Nat.{add-sub-cancel-left}
 use native.Mathlib.Omega.{arith}
 use Rattle.octets.specs.Cut.{piece}
-use Rattle.pb_adv.proofs.Laws.{segment-begins}
+use Rattle.transactions.proofs.Laws.{segment-begins}
 use Rattle.pb_adv_writing.proofs.Laws.{continuation-frame}
 use Rattle.pb_adv_writing.proofs.put_continuation.Statement.{statement}
 use Rattle.pb_adv_writing.proofs.put_continuation.Tie as tie
@@ -29,24 +29,24 @@ add-kind c = search needs
 cast-kind : tie.Need-cast-kind
 cast-kind c = search needs
 
-slice-aggregate-put-frame : tie.Need-slice-aggregate-put-frame
-slice-aggregate-put-frame c = search needs
+slice-aggregate-write-frame : tie.Need-slice-aggregate-write-frame
+slice-aggregate-write-frame c = search needs
 
-sub-put-frame : tie.Need-sub-put-frame
-sub-put-frame c = search needs
+sub-write-frame : tie.Need-sub-write-frame
+sub-write-frame c = search needs
 
-part-put-frame-start : tie.Need-part-put-frame-start
-part-put-frame-start c = search needs
+part-write-frame-start : tie.Need-part-write-frame-start
+part-write-frame-start c = search needs
 
-part-put-frame-end : tie.Need-part-put-frame-end
-part-put-frame-end c =
+part-write-frame-end : tie.Need-part-write-frame-end
+part-write-frame-end c =
     let b = c .before .before in
     let a = b .before .before .before .before .args in
     let asked = b .before .before .before .before .pre .1 in
     omega (arith, b .segment-length .ensures, b .before .segment-place .ensures, segment-begins (length (a .message .now)) (a .index) (asked .some-octets) (asked .index))
 
-put-frame-requires : tie.Need-put-frame-requires
-put-frame-requires c κs = search needs
+write-frame-requires : tie.Need-write-frame-requires
+write-frame-requires c κs = search needs
 
 same-length : tie.Need-same-length
 same-length c = search needs
@@ -57,7 +57,7 @@ returns c =
     let d = c .before .before .before .before .before .before in
     let a = d .before .before .before .before .args in
     rw (continuation-frame (a .id) (record { 0 = a .number }) (a .message .now) (a .index) (d .before .before .before .before .pre .0))
-    (rw (add-sub-cancel-left, d .segment-length .ensures, d .before .segment-place .ensures) at (c .before .before .put-frame .ensures))
+    (rw (add-sub-cancel-left, d .segment-length .ensures, d .before .segment-place .ensures) at (c .before .before .write-frame .ensures))
 
 pub put-continuation-spec : {M : Type 1} → statement M
 put-continuation-spec =
@@ -70,10 +70,10 @@ put-continuation-spec =
     mul-kind
     add-kind
     cast-kind
-    slice-aggregate-put-frame
-    sub-put-frame
-    part-put-frame-start
-    part-put-frame-end
-    put-frame-requires
+    slice-aggregate-write-frame
+    sub-write-frame
+    part-write-frame-start
+    part-write-frame-end
+    write-frame-requires
     same-length
     returns)

@@ -32,16 +32,16 @@ cast-t13 c = search needs
 cast-t14 : tie.Need-cast-t14
 cast-t14 c = search needs
 
-slice-aggregate-put-frame : tie.Need-slice-aggregate-put-frame
-slice-aggregate-put-frame c = search needs
+slice-aggregate-write-frame : tie.Need-slice-aggregate-write-frame
+slice-aggregate-write-frame c = search needs
 
-slice-aggregate-put-frame-2 : tie.Need-slice-aggregate-put-frame-2
-slice-aggregate-put-frame-2 c =
+slice-aggregate-write-frame-2 : tie.Need-slice-aggregate-write-frame-2
+slice-aggregate-write-frame-2 c =
     let l = c .before .before .before .before .before .segment-length in
     sym (length-take-le (l .result) (c .before .before .before .before .before .before .before .before .args .message .now) (omega (arith, l .ensures)))
 
-put-frame-requires : tie.Need-put-frame-requires
-put-frame-requires c κs = search needs
+write-frame-requires : tie.Need-write-frame-requires
+write-frame-requires c κs = search needs
 
 same-length : tie.Need-same-length
 same-length c = search needs
@@ -50,7 +50,7 @@ returns : tie.Need-returns
 unfolding segmentFrame headerOf segmentOctets piece
 returns c =
     let d = c .before .before .before .before .before .before in
-    rw (d .last-segment .ensures, d .before .check-octet .ensures, d .before .before .segment-length .ensures) at (c .before .before .put-frame .ensures)
+    rw (d .last-segment .ensures, d .before .check-octet .ensures, d .before .before .segment-length .ensures) at (c .before .before .write-frame .ensures)
 
 pub put-start-spec : {M : Type 1} → statement M
 put-start-spec =
@@ -64,8 +64,8 @@ put-start-spec =
     cast-kind
     cast-t13
     cast-t14
-    slice-aggregate-put-frame
-    slice-aggregate-put-frame-2
-    put-frame-requires
+    slice-aggregate-write-frame
+    slice-aggregate-write-frame-2
+    write-frame-requires
     same-length
     returns)

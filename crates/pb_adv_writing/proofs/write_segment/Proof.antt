@@ -3,7 +3,7 @@ use borrow.Author.Tests.{le-leb}
 use lib.ListN.{length}
 use native.Mathlib.Omega.{arith}
 use Rattle.octets.proofs.Tests.{tests}
-use Rattle.pb_adv.specs.Segments.{segN}
+use Rattle.transactions.specs.Segments.{segN}
 use Rattle.octets.specs.Writing.{written, outputAfter}
 use Rattle.pb_adv_writing.proofs.write_segment.Statement.{statement}
 use Rattle.pb_adv_writing.proofs.write_segment.Tie as tie

@@ -7,8 +7,8 @@ use native.Mathlib.Omega.{arith}
 use Rattle.links.specs.declared.HalfMessage.{HalfMessage}
 use Rattle.octets.proofs.Parts.{copied-part}
 use Rattle.octets.specs.Parts.{part}
-use Rattle.pb_adv.proofs.Laws.{segN-small}
-use Rattle.pb_adv.specs.Segments.{segmentPlace}
+use Rattle.transactions.proofs.Laws.{segN-small}
+use Rattle.transactions.specs.Segments.{segmentPlace}
 use Rattle.station.proofs.Laws.{entered-is, entered-part, segment-in}
 use Rattle.station.specs.Calls.{oneLink}
 use Rattle.station.proofs.enter.Statement.{statement}

@@ -1,0 +1,30 @@
+use borrow.Author.Needs.{needs}
+use Rattle.pb_adv.specs.Frame.{closeOctets}
+use Rattle.control_writing.proofs.write_close.Statement.{statement}
+use Rattle.control_writing.proofs.write_close.Tie as tie
+
+slice-aggregate-write-frame : tie.Need-slice-aggregate-write-frame
+slice-aggregate-write-frame c = search needs
+
+slice-aggregate-write-frame-2 : tie.Need-slice-aggregate-write-frame-2
+slice-aggregate-write-frame-2 c = search needs
+
+write-frame-requires : tie.Need-write-frame-requires
+write-frame-requires c κs = search needs
+
+same-length : tie.Need-same-length
+same-length c = search needs
+
+returns : tie.Need-returns
+unfolding closeOctets
+returns c = c .before .before .write-frame .ensures
+
+pub write-close-spec : {M : Type 1} → statement M
+write-close-spec =
+    tie.close
+    (tie.spec
+    slice-aggregate-write-frame
+    slice-aggregate-write-frame-2
+    write-frame-requires
+    same-length
+    returns)

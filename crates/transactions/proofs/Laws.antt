@@ -1,0 +1,26 @@
+-- Laws of SegN and of the places of segments.
+use Prim.Native.Nat.{ℕ, _+_, _*_, _≤_, _<_}
+use native.Mathlib.Omega.{arith}
+use mathlib.Core.List.{List}
+use mathlib.Core.Path.{_≡_, refl}
+use lib.ListN.{length}
+use Rattle.octets.proofs.Cut.{place-up, last-enough, last-least, piece-length, piece-begins}
+use Rattle.transactions.specs.Segments.{segN, segmentPlace, segmentLength, segment}
+
+-- SegN is the least number with L at most 20 + 23 SegN
+pub segN-enough : (n : ℕ) → n ≤ 20 + 23 * segN n
+segN-enough n = last-enough 20 23 n (omega arith)
+
+pub segN-least : (n k : ℕ) → n ≤ 20 + 23 * k → segN n ≤ k
+segN-least n k h = last-least 20 23 n k (omega arith) h
+
+-- at most 63 for a message that is not too long
+pub segN-small : (n : ℕ) → n ≤ 1469 → segN n ≤ 63
+segN-small n h = omega arith
+
+-- each segment begins before the end of the message
+pub segment-begins : (n k : ℕ) → 0 < n → k ≤ segN n → segmentPlace k < n
+segment-begins n k some h = piece-begins 20 23 n k (omega arith) some h
+
+pub segment-long : (m : List ℕ) (k : ℕ) → length (segment m k) ≡ segmentLength (length m) k
+segment-long m k = piece-length segmentPlace refl (place-up 20 23) (length m) m k (omega arith)
