@@ -159,7 +159,7 @@ fn take_delivery(
 fn find_place(links: [Link; 8], id: u32) -> Found
     ensures { λ r. ⌜ (r ≡ find links id) × FoundWithin r ⌝ }
 {
-    link_state::find_link(links, id)
+    link_search::find_link(links, id)
 }
 
 // A frame as it was heard.

@@ -1,11 +1,10 @@
-// The test for a state that is not bad, and the search for the record of a Link ID.
+// The test for a state that is not bad.
 use link_fields::all_marked;
 use link_fields::is_in_use;
 use link_fields::is_last;
 use link_fields::is_marked;
 use link_fields::is_sent_by;
 use link_fields::none_above;
-use links::Found;
 use links::HalfMessage;
 use links::HalfReceived;
 use links::LastDelivered;
@@ -20,7 +19,7 @@ ghost use lib.Dec.{eqb};
 ghost use lib.ListN.{drop};
 ghost use Rattle.transactions.specs.Segments.{isLength, segN};
 ghost use Rattle.links.specs.Marks.{isMarked, allMarked, noneAbove};
-ghost use Rattle.links.specs.Links.{peer, firstNumber, hasId, find};
+ghost use Rattle.links.specs.Links.{peer, firstNumber};
 ghost use Rattle.links.specs.Good.{goodMessage, goodHalf, goodLast, isNothing, isEmpty, atRest, goodAs, goodLink, apart, all, allApart, good};
 ghost use Rattle.links.specs.declared.LinkState.the-variants.{Opening, Open};
 
@@ -263,31 +262,4 @@ pub fn is_good(side: Side, links: [Link; 8]) -> bool
     } else {
         false
     }
-}
-
-// Whether a record is in use and has a Link ID.
-fn has_id(link: Link, id: u32) -> bool
-    ensures { λ r. ⌜ r ≡ hasId link id ⌝ }
-{
-    let state = link.state;
-    if is_in_use(state) {
-        link.id == id
-    } else {
-        false
-    }
-}
-
-// The record in use that has a Link ID.
-pub fn find_link(links: [Link; 8], id: u32) -> Found
-    ensures { λ r. ⌜ r ≡ find links id ⌝ }
-{
-    let mut i = 0;
-    while i < 8 {
-        let link = links[i];
-        if has_id(link, id) {
-            return Found::At(i);
-        }
-        i += 1;
-    }
-    Found::Nowhere
 }

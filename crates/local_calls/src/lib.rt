@@ -48,7 +48,7 @@ fn open_at(links: [Link; 8], socket: Socket, id: u32) -> Received
     if link_fields::is_in_use(state) {
         return refuse_call(links, Refusal::SocketInUse);
     }
-    let taken = link_state::find_link(links, id);
+    let taken = link_search::find_link(links, id);
     match taken {
         Found::At(_) => refuse_call(links, Refusal::LinkIdInUse),
         Found::Nowhere => {

@@ -433,7 +433,7 @@ fn at_link(links: [Link; 8], id: u32, parsed: Parsed) -> Received
     requires { ⌜ NoSegment parsed ⌝ }
     ensures { λ r. ⌜ r ≡ otherAt links (find links id) parsed ⌝ }
 {
-    let found = link_state::find_link(links, id);
+    let found = link_search::find_link(links, id);
     let Found::At(place) = found else {
         return refuse_call(links, Refusal::UnknownLink);
     };
@@ -491,7 +491,7 @@ fn receive_segment(links: [Link; 8], segment: Segment, area: &mut [u8], frame: &
     ensures { λ r. ⌜ (r ≡ receivedOf (atFound links (now (area .entry)) (now (frame .entry)) segment (find links (segment .id))))
         × (now (area .exit) ≡ atFound links (now (area .entry)) (now (frame .entry)) segment (find links (segment .id)) .1 .area) ⌝ }
 {
-    let found = link_state::find_link(links, segment.id);
+    let found = link_search::find_link(links, segment.id);
     let Found::At(place) = found else {
         return refuse_call(links, Refusal::UnknownLink);
     };

@@ -5,10 +5,10 @@ use lib.ListN.{length, drop}
 use mathlib.Core.Path.{_≡_}
 use native.Mathlib.Omega.{arith}
 use Rattle.octets.proofs.Loops.{nothing-left}
-use Rattle.link_state.proofs.Laws.{finds, looks-on}
+use Rattle.link_search.proofs.Laws.{finds, looks-on}
 use Rattle.links.specs.Links.{findFrom}
-use Rattle.link_state.proofs.find_link.Statement.{statement}
-use Rattle.link_state.proofs.find_link.Tie as tie
+use Rattle.link_search.proofs.find_link.Statement.{statement}
+use Rattle.link_search.proofs.find_link.Tie as tie
 
 abbrev Inv-loop : tie.InvT-loop
 Inv-loop id links i₀ i =

@@ -1,7 +1,7 @@
 -- By the two tests.
 use borrow.Author.Needs.{needs}
-use Rattle.link_state.proofs.has_id.Statement.{statement}
-use Rattle.link_state.proofs.has_id.Tie as tie
+use Rattle.link_search.proofs.has_id.Statement.{statement}
+use Rattle.link_search.proofs.has_id.Tie as tie
 
 is-in-use-requires : tie.Need-is-in-use-requires
 is-in-use-requires c κs = search needs
