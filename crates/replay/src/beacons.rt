@@ -160,7 +160,7 @@ pub(super) fn hear(state: SecurityState, x: &[u8], values: &mut [u8]) -> StateSt
         key: key,
         subnet: subnet,
     };
-    let heard = beacon::hear_beacon(state, hearing, &x[3..]);
+    let heard = beacon_hearing::hear_beacon(state, hearing, &x[3..]);
     after_hearing(heard, &x[3..], values)
 }
 
@@ -168,7 +168,7 @@ fn set_phase(state: SecurityState, x: &[u8], values: &mut [u8]) -> StateStep {
     if x.len() != 1 {
         return keep(state, Outcome::Malformed);
     }
-    let heard = beacon::set_phase(state, octet_at(x, 0));
+    let heard = key_refresh::set_phase(state, octet_at(x, 0));
     after_hearing(heard, b"", values)
 }
 
@@ -179,7 +179,7 @@ fn perform_bare(operation: u8, state: SecurityState, values: &mut [u8]) -> State
             keep(state, shown)
         }
         b'I' => {
-            let heard = beacon::start_key_refresh(state);
+            let heard = key_refresh::start_key_refresh(state);
             after_hearing(heard, b"", values)
         }
         _ => keep(state, Outcome::Malformed),

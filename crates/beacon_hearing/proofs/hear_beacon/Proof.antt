@@ -1,8 +1,8 @@
 use borrow.Author.Needs.{needs}
 use Rattle.beacon.specs.Beacons.{heard}
 use Rattle.octets.proofs.Tests.{tests}
-use Rattle.beacon.proofs.hear_beacon.Statement.{statement}
-use Rattle.beacon.proofs.hear_beacon.Tie as tie
+use Rattle.beacon_hearing.proofs.hear_beacon.Statement.{statement}
+use Rattle.beacon_hearing.proofs.hear_beacon.Tie as tie
 
 refuse-requires : tie.Need-refuse-requires
 refuse-requires c κs = search needs

@@ -1,8 +1,8 @@
 use borrow.Author.Needs.{needs}
 use Rattle.beacon.specs.Beacons.{unprovisioned}
 use Rattle.octets.proofs.Tests.{tests}
-use Rattle.beacon.proofs.read_unprovisioned.Statement.{statement}
-use Rattle.beacon.proofs.read_unprovisioned.Tie as tie
+use Rattle.beacon_hearing.proofs.read_unprovisioned.Statement.{statement}
+use Rattle.beacon_hearing.proofs.read_unprovisioned.Tie as tie
 
 read16-requires : tie.Need-read16-requires
 read16-requires c κs = search needs

@@ -1,6 +1,6 @@
 use borrow.Author.Needs.{needs}
-use Rattle.beacon.proofs.is_wrong_key.Statement.{statement}
-use Rattle.beacon.proofs.is_wrong_key.Tie as tie
+use Rattle.beacon_hearing.proofs.is_wrong_key.Statement.{statement}
+use Rattle.beacon_hearing.proofs.is_wrong_key.Tie as tie
 
 enum-told : tie.Need-enum-told
 enum-told c = search needs

@@ -1,5 +1,5 @@
-use Rattle.beacon.proofs.recovery.Statement.{statement}
-use Rattle.beacon.proofs.recovery.Tie as tie
+use Rattle.beacon_hearing.proofs.recovery.Statement.{statement}
+use Rattle.beacon_hearing.proofs.recovery.Tie as tie
 
 returns : tie.Need-returns
 returns c = simp (c .if1 .taken)

@@ -1,8 +1,8 @@
 use borrow.Author.Needs.{needs}
 use Rattle.beacon.specs.Beacons.{set}
 use Rattle.octets.proofs.Tests.{tests}
-use Rattle.beacon.proofs.set_phase.Statement.{statement}
-use Rattle.beacon.proofs.set_phase.Tie as tie
+use Rattle.key_refresh.proofs.set_phase.Statement.{statement}
+use Rattle.key_refresh.proofs.set_phase.Tie as tie
 
 refuse-requires : tie.Need-refuse-requires
 refuse-requires c κs = search needs

@@ -1,8 +1,8 @@
 use borrow.Author.Needs.{needs}
 use borrow.Author.Tests.{eq-eqb, ne-eqb}
 use Rattle.beacon.specs.Beacons.{secure}
-use Rattle.beacon.proofs.read_secure.Statement.{statement}
-use Rattle.beacon.proofs.read_secure.Tie as tie
+use Rattle.beacon_hearing.proofs.read_secure.Statement.{statement}
+use Rattle.beacon_hearing.proofs.read_secure.Tie as tie
 
 refuse-requires : tie.Need-refuse-requires
 refuse-requires c κs = search needs

@@ -2,9 +2,9 @@ use Prim.Native.Nat.{_+_}
 use borrow.Author.Needs.{needs}
 use borrow.Author.Tests.{eq-eqb, ne-eqb, lt-leb}
 use native.Mathlib.Omega.{arith}
 use Rattle.beacon.specs.Rules.{ivRule}
-use Rattle.beacon.proofs.iv_rule.Statement.{statement}
-use Rattle.beacon.proofs.iv_rule.Tie as tie
+use Rattle.beacon_hearing.proofs.iv_rule.Statement.{statement}
+use Rattle.beacon_hearing.proofs.iv_rule.Tie as tie
 
 cast-i : tie.Need-cast-i
 cast-i c = search needs

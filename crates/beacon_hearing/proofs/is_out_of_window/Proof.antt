@@ -1,8 +1,8 @@
 use borrow.Author.Needs.{needs}
 use borrow.Author.Tests.{le-leb, lt-leb}
 use Rattle.beacon.specs.Rules.{outOfWindow}
-use Rattle.beacon.proofs.is_out_of_window.Statement.{statement}
-use Rattle.beacon.proofs.is_out_of_window.Tie as tie
+use Rattle.beacon_hearing.proofs.is_out_of_window.Statement.{statement}
+use Rattle.beacon_hearing.proofs.is_out_of_window.Tie as tie
 
 returns : tie.Need-returns
 unfolding outOfWindow

@@ -1,6 +1,6 @@
 use borrow.Author.Needs.{needs}
-use Rattle.beacon.proofs.key_rule.Statement.{statement}
-use Rattle.beacon.proofs.key_rule.Tie as tie
+use Rattle.beacon_hearing.proofs.key_rule.Statement.{statement}
+use Rattle.beacon_hearing.proofs.key_rule.Tie as tie
 
 enum-told : tie.Need-enum-told
 enum-told c = search needs

@@ -1,8 +1,8 @@
 use borrow.Author.Needs.{needs}
 use Rattle.beacon.specs.Beacons.{started}
 use Rattle.octets.proofs.Tests.{tests}
-use Rattle.beacon.proofs.start_key_refresh.Statement.{statement}
-use Rattle.beacon.proofs.start_key_refresh.Tie as tie
+use Rattle.key_refresh.proofs.start_key_refresh.Statement.{statement}
+use Rattle.key_refresh.proofs.start_key_refresh.Tie as tie
 
 refuse-requires : tie.Need-refuse-requires
 refuse-requires c κs = search needs

@@ -1,7 +1,7 @@
 use borrow.Author.Needs.{needs}
 use Rattle.beacon.specs.Beacons.{moved}
-use Rattle.beacon.proofs.move_state.Statement.{statement}
-use Rattle.beacon.proofs.move_state.Tie as tie
+use Rattle.beacon_hearing.proofs.move_state.Statement.{statement}
+use Rattle.beacon_hearing.proofs.move_state.Tie as tie
 
 octet-at-requires : tie.Need-octet-at-requires
 octet-at-requires c κs = search needs
