@@ -4,8 +4,9 @@ use hex::Decoded;
 use octets::Written;
 ghost use mathlib.Core.Path.{_≡_};
 ghost use mathlib.Core.Bool.{true};
-ghost use Prim.Native.Nat.{_≤_};
-ghost use lib.ListN.{length};
+ghost use mathlib.Core.List.{[], _∷_};
+ghost use Prim.Native.Nat.{_+_, _/_, _%_, _≤_};
+ghost use lib.ListN.{length, take};
 ghost use Rattle.octets.specs.Writing.{written, outputAfter};
 ghost use Rattle.script.specs.Script.{capitals, isLine, argumentsOf, argumentsRead, argumentsAfter, answerLine, outcomeLine, hashStep, hashFrom};
 
@@ -100,20 +101,34 @@ fn write_answer(head: &[u8], values: &[u8], output: &mut [u8]) -> Written
     Written::Count(end + 1)
 }
 
+// A letter, and so many octets from the start of the values.
+fn write_values(letter: u8, values: &[u8], count: usize, output: &mut [u8]) -> Written
+    ensures { λ r. ⌜ (r ≡ written true (answerLine (letter ∷ []) (take count (now (values .entry)))) (now (output .entry)))
+        × (now (output .exit) ≡ outputAfter true (answerLine (letter ∷ []) (take count (now (values .entry)))) (now (output .entry))) ⌝ }
+{
+    if values.len() < count {
+        return write_answer(&[letter], values, output);
+    }
+    write_answer(&[letter], &values[0..count], output)
+}
+
+// A refusal by its number.
+fn write_refusal(n: u8, output: &mut [u8]) -> Written
+    ensures { λ r. ⌜ (r ≡ written true (answerLine (33 ∷ (48 + n / 10 % 10) ∷ (48 + n % 10) ∷ []) []) (now (output .entry)))
+        × (now (output .exit) ≡ outputAfter true (answerLine (33 ∷ (48 + n / 10 % 10) ∷ (48 + n % 10) ∷ []) []) (now (output .entry))) ⌝ }
+{
+    write_answer(&[b'!', 48 + n / 10 % 10, 48 + n % 10], b"", output)
+}
+
 // The line of an answer.
 pub fn write_outcome(outcome: Outcome, values: &[u8], output: &mut [u8]) -> Written
     ensures { λ r. ⌜ (r ≡ written true (outcomeLine outcome (now (values .entry))) (now (output .entry)))
         × (now (output .exit) ≡ outputAfter true (outcomeLine outcome (now (values .entry))) (now (output .entry))) ⌝ }
 {
     match outcome {
-        Outcome::Values { letter, count } => {
-            if values.len() < count {
-                return write_answer(&[letter], values, output);
-            }
-            write_answer(&[letter], &values[0..count], output)
-        }
+        Outcome::Values { letter, count } => write_values(letter, values, count, output),
         Outcome::Done => write_answer(b"OK", b"", output),
-        Outcome::Refused(n) => { write_answer(&[b'!', 48 + n / 10 % 10, 48 + n % 10], b"", output) }
+        Outcome::Refused(n) => write_refusal(n, output),
         Outcome::Malformed => write_answer(b"?", b"", output),
     }
 }
