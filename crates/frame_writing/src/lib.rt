@@ -45,7 +45,7 @@ pub fn write_frame(
         return Written::WrongArgument;
     }
     put_head(output, id, number, kind);
-    octets::copy(output, 6, fields, 0, fields.len());
-    octets::copy(output, at, octets, 0, octets.len());
+    octet_parts::copy(output, 6, fields, 0, fields.len());
+    octet_parts::copy(output, at, octets, 0, octets.len());
     Written::Count(at + octets.len())
 }

@@ -75,7 +75,7 @@ fn put_refused(number: TransactionNumber, output: &mut [u8]) -> LineWritten
     ensures { λ r. ⌜ (r ≡ textWritten refusedText number (now (output .entry)))
         × (now (output .exit) ≡ textOutput refusedText (now (output .entry))) ⌝ }
 {
-    if octets::copy(output, 0, b"!11\n", 0, 4) {
+    if octet_parts::copy(output, 0, b"!11\n", 0, 4) {
         LineWritten::Text {
             length: 4,
             next: number,

@@ -34,7 +34,7 @@ pub fn write_text(text: &[u8], output: &mut [u8]) -> Written
     ensures { λ r. ⌜ (r ≡ textWritten (now (text .entry)) (now (output .entry)))
         × (now (output .exit) ≡ textOutput (now (text .entry)) (now (output .entry))) ⌝ }
 {
-    if octets::copy(output, 0, text, 0, text.len()) {
+    if octet_parts::copy(output, 0, text, 0, text.len()) {
         Written::Count(text.len())
     } else {
         Written::WrongArgument
@@ -47,7 +47,7 @@ fn put_text(line: &mut [u8], at: usize, text: &[u8]) -> usize
     ensures { λ r. ⌜ (r ≡ at + length (now (text .entry)))
         × (now (line .exit) ≡ write (now (line .entry)) at (now (text .entry))) ⌝ }
 {
-    octets::copy(line, at, text, 0, text.len());
+    octet_parts::copy(line, at, text, 0, text.len());
     at + text.len()
 }
 

@@ -170,9 +170,9 @@ pub fn hold(line: &mut [u8], held: usize, piece: &[u8]) -> usize
     }
     let room = line.len() - held;
     if piece.len() < room {
-        octets::copy(line, held, piece, 0, piece.len());
+        octet_parts::copy(line, held, piece, 0, piece.len());
         return held + piece.len();
     }
-    octets::copy(line, held, piece, 0, room);
+    octet_parts::copy(line, held, piece, 0, room);
     held + room
 }

@@ -134,7 +134,7 @@ fn put_piece(size: usize, kind: u8, message: &[u8], index: usize, output: &mut [
         return Written::WrongArgument;
     }
     output[0] = first_octet(size, kind, message.len(), index);
-    octets::copy(output, 1, message, from, count);
+    octet_parts::copy(output, 1, message, from, count);
     Written::Count(1 + count)
 }
 
@@ -372,6 +372,6 @@ pub fn read_piece(transfer: Transfer, buffer: &mut [u8], piece: &[u8]) -> PieceR
         return read;
     }
     let half = transfer.half;
-    octets::copy(buffer, held_length(half), piece, 1, piece.len() - 1);
+    octet_parts::copy(buffer, held_length(half), piece, 1, piece.len() - 1);
     read
 }

@@ -208,7 +208,7 @@ fn main() {
     );
     let after = bring_rounds(tray, &mut area, &messages);
     write_tally(after.tally);
-    if octets::same_part(&area, 0, &messages, 1469, 11752) {
+    if octet_parts::same_part(&area, 0, &messages, 1469, 11752) {
         io::write_all(STDOUT_FILENO, b"the area holds the messages\n");
     }
 }

@@ -72,7 +72,7 @@ fn put_hash(hash: Hash, beacon: &[u8], values: &mut [u8]) {
 }
 
 fn unprovisioned(uuid: usize, oob: u16, hash: Hash, beacon: &[u8], values: &mut [u8]) -> Outcome {
-    octets::copy(values, 0, beacon, uuid, 16);
+    octet_parts::copy(values, 0, beacon, uuid, 16);
     put16(values, 16, oob);
     put_hash(hash, beacon, values);
     Outcome::Values {

@@ -90,7 +90,7 @@ pub(super) fn show(filter: Filter, values: &mut [u8]) -> Outcome {
 
 fn status(kind: FilterType, count: u8, values: &mut [u8]) -> Outcome {
     let octets = proxy_filter::status_octets(kind, count);
-    octets::copy(values, 0, &octets, 0, 4);
+    octet_parts::copy(values, 0, &octets, 0, 4);
     Outcome::Values {
         letter: b'F',
         count: 4,

@@ -116,7 +116,7 @@ fn set_view(viewed: Viewed, x: &[u8], octets: &mut [u8]) -> ViewStep {
     if 0x0600 < length {
         return keep(viewed, Outcome::Malformed);
     }
-    octets::copy(octets, 0, x, 2, length);
+    octet_parts::copy(octets, 0, x, 2, length);
     let after = Viewed {
         length: length,
         place: read16(x, 0) as usize,

@@ -154,7 +154,7 @@ fn put_record(link: Link, values: &mut [u8], at: usize) {
     put8(&mut record, 6, flag_octet(link.outstanding));
     put_last(last, &mut record);
     put_half(half, &mut record);
-    octets::copy(values, at, &record, 0, 22);
+    octet_parts::copy(values, at, &record, 0, 22);
 }
 
 fn show(links: [Link; 8], x: &[u8], values: &mut [u8]) -> Outcome {

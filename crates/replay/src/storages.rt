@@ -25,7 +25,7 @@ fn write(x: &[u8], storage: &mut [u8]) -> Outcome {
         return Outcome::Malformed;
     }
     let place = read16(x, 0) as usize;
-    if octets::copy(storage, place, x, 2, x.len() - 2) {
+    if octet_parts::copy(storage, place, x, 2, x.len() - 2) {
         return Outcome::Done;
     }
     Outcome::Malformed
@@ -40,7 +40,7 @@ fn show(x: &[u8], storage: &[u8], values: &mut [u8]) -> Outcome {
     if 0x0FA0 < count {
         return Outcome::Malformed;
     }
-    if octets::copy(values, 0, storage, place, count) {
+    if octet_parts::copy(values, 0, storage, place, count) {
         return Outcome::Values {
             letter: b'H',
             count: count,

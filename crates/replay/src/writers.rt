@@ -17,7 +17,7 @@ fn outcome_of(written: Written, output: &[u8], values: &mut [u8]) -> Outcome {
         return Outcome::Malformed;
     }
     put16(values, 0, n as u16);
-    octets::copy(values, 2, output, 0, n);
+    octet_parts::copy(values, 2, output, 0, n);
     Outcome::Values {
         letter: b'W',
         count: 2 + n,

@@ -95,7 +95,7 @@ fn write_answer(head: &[u8], values: &[u8], output: &mut [u8]) -> Written
         return Written::WrongArgument;
     }
     let end = head.len() + 2 * values.len();
-    octets::copy(output, 0, head, 0, head.len());
+    octet_parts::copy(output, 0, head, 0, head.len());
     hex::encode(values, output, head.len());
     output[end] = b'\n';
     Written::Count(end + 1)

@@ -171,7 +171,7 @@ fn enter(
     ensures { λ r. ⌜ (r ≡ steppedOf (enteredFrom link (now (part .entry)) message index (now (frame .entry)) from count))
         × (now (part .exit) ≡ enteredFrom link (now (part .entry)) message index (now (frame .entry)) from count .1 .part) ⌝ }
 {
-    octets::copy(part, transactions::segment_place(index), frame, from, count);
+    octet_parts::copy(part, transactions::segment_place(index), frame, from, count);
     let more = mark(message, index);
     complete(link, more, &part[..])
 }
@@ -180,7 +180,7 @@ fn enter(
 fn compare(index: u16, part: &[u8], frame: &[u8], from: usize, count: usize) -> Answer
     ensures { λ r. ⌜ r ≡ compared index (now (part .entry)) (now (frame .entry)) from count ⌝ }
 {
-    if octets::same_part(part, transactions::segment_place(index), frame, from, count) {
+    if octet_parts::same_part(part, transactions::segment_place(index), frame, from, count) {
         Answer::Repeat
     } else {
         Answer::Refused(Refusal::Mismatch)

@@ -6,10 +6,10 @@ use lib.ListN.{length, drop}
 use mathlib.Core.List.{List}
 use mathlib.Core.Path.{_≡_, sym, _∙_}
 use native.Mathlib.Omega.{arith}
 use Rattle.octets.proofs.Parts.{same-step, same-end}
 use Rattle.octets.specs.Parts.{same}
-use Rattle.octets.proofs.same_all.Statement.{statement}
-use Rattle.octets.proofs.same_all.Tie as tie
+use Rattle.octet_parts.proofs.same_all.Statement.{statement}
+use Rattle.octet_parts.proofs.same_all.Tie as tie
 
 abbrev Inv-loop : tie.InvT-loop
 Inv-loop a b j₀ j = (j ≤ length a) × (same (drop j a) (drop j b) ≡ same a b)

@@ -5,9 +5,9 @@ use lib.Seq.{paste, paste-zero, paste-suc, take-length}
 use mathlib.Core.Path.{_≡_, refl, _∙_}
 use native.Mathlib.Numerals.{add-one}
 use native.Mathlib.Omega.{arith}
 use Rattle.octets.specs.Parts.{write}
-use Rattle.octets.proofs.copy_all.Statement.{statement}
-use Rattle.octets.proofs.copy_all.Tie as tie
+use Rattle.octet_parts.proofs.copy_all.Statement.{statement}
+use Rattle.octet_parts.proofs.copy_all.Tie as tie
 
 abbrev Inv-loop : tie.InvT-loop
 Inv-loop to₀ at source j₀ to j = (j ≤ length source) × (length to ≡ length to₀) × (to ≡ paste to₀ at source j)

@@ -3,11 +3,11 @@ use mathlib.Core.Path.{sym, _∙_}
 use lib.ListN.{length-take, length-drop}
 use native.Mathlib.Nat.{add-sub-cancel-left}
 use native.Mathlib.Omega.{arith}
 use Rattle.octets.proofs.Parts.{copied-part}
 use Rattle.octets.proofs.Tests.{holds-both}
 use Rattle.octets.specs.Parts.{copied}
-use Rattle.octets.proofs.copy.Statement.{statement}
-use Rattle.octets.proofs.copy.Tie as tie
+use Rattle.octet_parts.proofs.copy.Statement.{statement}
+use Rattle.octet_parts.proofs.copy.Tie as tie
 
 fits-requires : tie.Need-fits-requires
 fits-requires c κs = search needs

@@ -3,9 +3,9 @@ use borrow.Author.Tests.{leb-true}
 use mathlib.Core.Bool.{true, false}
 use mathlib.Core.Path.{_≡_}
 use native.Mathlib.Omega.{arith}
 use Rattle.octets.proofs.Tests.{tests}
-use Rattle.octets.proofs.fits.Statement.{statement}
-use Rattle.octets.proofs.fits.Tie as tie
+use Rattle.octet_parts.proofs.fits.Statement.{statement}
+use Rattle.octet_parts.proofs.fits.Tie as tie
 
 returns : tie.Need-returns
 returns c = (search tests, λ e. let f : false ≡ true = e in let q : _≡_ {A = ℕ} 0 1 = cc in omega arith)

@@ -2,10 +2,10 @@ use borrow.Author.Needs.{needs}
 use mathlib.Core.Path.{sym, _∙_}
 use native.Mathlib.Nat.{add-sub-cancel-left}
 use native.Mathlib.Omega.{arith}
 use Rattle.octets.proofs.Parts.{same-part-fits}
 use Rattle.octets.specs.Parts.{samePart}
-use Rattle.octets.proofs.same_part.Statement.{statement}
-use Rattle.octets.proofs.same_part.Tie as tie
+use Rattle.octet_parts.proofs.same_part.Statement.{statement}
+use Rattle.octet_parts.proofs.same_part.Tie as tie
 
 fits-requires : tie.Need-fits-requires
 fits-requires c κs = search needs
