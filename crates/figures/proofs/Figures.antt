@@ -4,8 +4,9 @@ use Rattle.fcs.specs.Fcs.{checkOctet, octetStep, bitStep}
 use Rattle.beacon.specs.Rules.{outOfWindow}
 use Rattle.octets.specs.Cut.{piece, upTo}
 use Rattle.proxy.specs.Pieces.{lastPiece, topBits, pieceOctets}
+use Rattle.filter_messages.specs.Messages.{changeOf, requestOf}
 use Rattle.proxy_filter.specs.Filters.{findFrom, holding, isGood}
-use Rattle.proxy_filter.specs.Calls.{changed, changeOf, requestOf, controlled}
+use Rattle.proxy_filter.specs.Calls.{changed, controlled}
 use Rattle.figures.specs.Figures.{FiguresHold}
 
 pub figures-hold : FiguresHold

@@ -9,9 +9,9 @@ use lib.ListN.{length, take, drop, set, replicate, length-append, length-drop, t
 use lib.Seq.{take-append-le, drop-append-le, take-at, drop-at, set-at, length-take-le, append-snoc}
 use borrow.Author.Tests.{le-leb, lt-leb, leb-true, eqb-true}
 use Rattle.octets.proofs.Tests.{both-hold}
+use Rattle.filter_messages.specs.declared.FilterType.{FilterType}
 use Rattle.proxy_filter.specs.Filters.{entry, unused, held, past, holding, allAllowed, allUnused, isGood}
 use Rattle.proxy_filter.specs.Calls.{appended, without}
-use Rattle.proxy_filter.specs.declared.FilterType.{FilterType}
 use Rattle.proxy_filter.specs.declared.Entry.{Entry}
 use Rattle.proxy_filter.specs.declared.Filter.{Filter}
 

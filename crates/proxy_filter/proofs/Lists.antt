@@ -9,14 +9,14 @@ use lib.ListN.{length, drop, length-append, length-take}
 use lib.Seq.{take-at}
 use borrow.Author.Tests.{eq-eqb, ne-eqb, eqb-true, eqb-false, leb-false, not-true}
 use Rattle.octets.proofs.Tests.{cases}
+use Rattle.filter_messages.specs.declared.Change.{Change}
+use Rattle.filter_messages.specs.declared.Change.the-variants.{Add, Remove}
 use Rattle.proxy_filter.specs.Filters.{entry, held, isGood, isOn, find, allAllowed}
 use Rattle.proxy_filter.specs.Calls.{without, changed, changedAt, changedAll}
 use Rattle.proxy_filter.specs.Promises.{allBut}
 use Rattle.proxy_filter.specs.declared.Entry.{Entry}
 use Rattle.proxy_filter.specs.declared.Filter.{Filter}
 use Rattle.proxy_filter.specs.declared.Place.{Place}
-use Rattle.proxy_filter.specs.declared.Change.{Change}
-use Rattle.proxy_filter.specs.declared.Change.the-variants.{Add, Remove}
 use Rattle.proxy_filter.proofs.Lookup.{Found, there, absent, found}
 use Rattle.proxy_filter.proofs.Holding.{good-count, good-held}
 

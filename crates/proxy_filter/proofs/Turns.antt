@@ -7,9 +7,9 @@ use mathlib.Core.Path.{_≡_, refl, sym, _∙_}
 use lib.ListN.{length, drop, length-drop}
 use Rattle.octets.specs.Numbers.{big16}
 use Rattle.octets.proofs.Loops.{left-here}
+use Rattle.filter_messages.specs.declared.Change.{Change}
 use Rattle.proxy_filter.specs.Filters.{held, holding, isGood}
 use Rattle.proxy_filter.specs.Calls.{changed, changedAll, addresses}
-use Rattle.proxy_filter.specs.declared.Change.{Change}
 use Rattle.proxy_filter.specs.declared.Filter.{Filter}
 use Rattle.proxy_filter.proofs.Holding.{held-holding, kind-holding, long-holding, good-holding, rebuilt}
 use Rattle.proxy_filter.proofs.Lists.{fine-held, fine-changed}

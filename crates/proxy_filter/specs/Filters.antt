@@ -4,7 +4,7 @@ use mathlib.Core.Bool.{Bool, true, false, _&&_, _||_, not, cond}
 use mathlib.Core.List.{List, [], _∷_, _++_}
 use lib.Dec.{leb, eqb}
 use lib.ListN.{length, take, drop, replicate}
-use Rattle.proxy_filter.specs.declared.FilterType.{FilterType}
+use Rattle.filter_messages.specs.declared.FilterType.{FilterType}
 use Rattle.proxy_filter.specs.declared.Entry.{Entry}
 use Rattle.proxy_filter.specs.declared.Filter.{Filter}
 use Rattle.proxy_filter.specs.declared.Place.{Place}

@@ -8,10 +8,11 @@ use lib.Dec.{eqb}
 use lib.ListN.{length}
 use Rattle.octets.specs.Numbers.{octets16}
 use Rattle.octets.specs.Told.{Told, refused, answered}
+use Rattle.filter_messages.specs.Messages.{statusOctets, told}
+use Rattle.filter_messages.specs.declared.FilterType.the-variants.{AcceptList, RejectList}
+use Rattle.filter_messages.specs.declared.Change.the-variants.{Add, Remove}
 use Rattle.proxy_filter.specs.Filters.{entry, held, holding, isOn, isGood}
-use Rattle.proxy_filter.specs.Calls.{new, changedAll, statusOctets, controlled, isUnicast, learned, passing, reporting, told, passTold}
-use Rattle.proxy_filter.specs.declared.FilterType.the-variants.{AcceptList, RejectList}
-use Rattle.proxy_filter.specs.declared.Change.the-variants.{Add, Remove}
+use Rattle.proxy_filter.specs.Calls.{new, changedAll, controlled, isUnicast, learned, passing, reporting, passTold}
 use Rattle.proxy_filter.specs.declared.Entry.{Entry}
 use Rattle.proxy_filter.specs.declared.Filter.{Filter}
 use Rattle.proxy_filter.specs.declared.FilterStep.{FilterStep}

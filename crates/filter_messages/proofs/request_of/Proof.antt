@@ -1,8 +1,8 @@
 use Rattle.octets.proofs.Tests.{tests}
-use Rattle.proxy_filter.specs.Calls.{requestOf}
+use Rattle.filter_messages.specs.Messages.{requestOf}
 use borrow.Author.Needs.{needs}
-use Rattle.proxy_filter.proofs.request_of.Statement.{statement}
-use Rattle.proxy_filter.proofs.request_of.Tie as tie
+use Rattle.filter_messages.proofs.request_of.Statement.{statement}
+use Rattle.filter_messages.proofs.request_of.Tie as tie
 
 returns : tie.Need-returns
 unfolding requestOf

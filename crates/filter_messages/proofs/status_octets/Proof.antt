@@ -3,8 +3,8 @@ use Prim.Native.Nat.{_/_, _%_}
 use borrow.Author.Needs.{needs}
 use mathlib.Core.Path.{_≡_}
 use native.Mathlib.Omega.{arith}
-use Rattle.proxy_filter.proofs.status_octets.Statement.{statement}
-use Rattle.proxy_filter.proofs.status_octets.Tie as tie
+use Rattle.filter_messages.proofs.status_octets.Statement.{statement}
+use Rattle.filter_messages.proofs.status_octets.Tie as tie
 
 enum-told : tie.Need-enum-told
 enum-told c = search needs
