@@ -18,16 +18,18 @@ use Rattle.filter_messages.specs.declared.Request.{Request}
 use Rattle.filter_messages.specs.declared.Request.the-variants as Q
 use Rattle.filter_messages.specs.declared.FilterRefusal.{FilterRefusal}
 use Rattle.filter_messages.specs.declared.FilterRefusal.the-variants as R
-use Rattle.proxy_filter.specs.Filters.{entry, held, holding, isOn, find, isGood}
-use Rattle.proxy_filter.specs.Calls.{changed, changedAt, addresses, performed, controlled, changeFor, isUnicast, learned, passing, passAnswer, reporting, refusing, passTold}
+use Rattle.filter_entries.specs.Entries.{entry, isOn, find}
+use Rattle.filter_entries.specs.Changes.{changed, changedAt}
+use Rattle.filter_entries.specs.declared.Entry.{Entry}
+use Rattle.filter_entries.specs.declared.Place.{Place}
+use Rattle.filter_entries.specs.declared.Place.the-variants.{At, Nowhere}
+use Rattle.filter_entries.proofs.Lookup.{isThere, on-found}
+use Rattle.filter_entries.proofs.Lists.{Fine, fine-changed, fine-all, off-zero, on-after, off-after, others-left, around-left}
+use Rattle.proxy_filter.specs.Filters.{held, holding, isGood}
+use Rattle.proxy_filter.specs.Calls.{addresses, performed, controlled, changeFor, isUnicast, learned, passing, passAnswer, reporting, refusing, passTold}
 use Rattle.proxy_filter.specs.Promises.{Safe, AllSafe, octetsOf, AllMessages, afterAdding, Additions, afterRemoving, Removals, decision, AllPassing, AllLearning}
-use Rattle.proxy_filter.specs.declared.Entry.{Entry}
 use Rattle.proxy_filter.specs.declared.Filter.{Filter}
-use Rattle.proxy_filter.specs.declared.Place.{Place}
-use Rattle.proxy_filter.specs.declared.Place.the-variants.{At, Nowhere}
-use Rattle.proxy_filter.proofs.Lookup.{isThere, on-found}
-use Rattle.proxy_filter.proofs.Holding.{held-holding, kind-holding, count-holding, good-holding, rebuilt}
-use Rattle.proxy_filter.proofs.Lists.{Fine, fine-held, fine-changed, fine-all, off-zero, on-after, off-after, others-left, around-left}
+use Rattle.proxy_filter.proofs.Holding.{held-holding, kind-holding, count-holding, good-holding, fine-held, rebuilt}
 
 -- ---- every call
 

@@ -1,9 +1,9 @@
 -- The calls on a filter, in document 01's order.
-use Prim.Native.Nat.{ℕ, suc, _+_, _*_}
+use Prim.Native.Nat.{ℕ, _+_, _*_}
 use mathlib.Core.Bool.{Bool, _&&_, cond}
-use mathlib.Core.List.{List, [], _∷_, _++_}
+use mathlib.Core.List.{List, [], _∷_}
 use lib.Dec.{leb, eqb}
-use lib.ListN.{length, take, drop}
+use lib.ListN.{drop}
 use Rattle.octets.specs.Told.{Told, refused, answered}
 use Rattle.filter_messages.specs.Messages.{requestOf}
 use Rattle.filter_messages.specs.declared.FilterType.{FilterType}
@@ -14,42 +14,16 @@ use Rattle.filter_messages.specs.declared.Request.{Request}
 use Rattle.filter_messages.specs.declared.Request.the-variants as Q
 use Rattle.filter_messages.specs.declared.FilterRefusal.{FilterRefusal}
 use Rattle.filter_messages.specs.declared.FilterRefusal.the-variants as R
-use Rattle.filter_messages.specs.declared.FilterAnswer.{FilterAnswer}
 use Rattle.filter_messages.specs.declared.FilterAnswer.the-variants as A
-use Rattle.proxy_filter.specs.Filters.{entry, held, holding, find, isGood}
-use Rattle.proxy_filter.specs.declared.Entry.{Entry}
+use Rattle.filter_entries.specs.Entries.{find}
+use Rattle.filter_entries.specs.Changes.{changed, changedAll}
+use Rattle.filter_entries.specs.declared.Place.{Place}
+use Rattle.filter_entries.specs.declared.Place.the-variants.{At, Nowhere}
+use Rattle.proxy_filter.specs.Filters.{held, holding, isGood}
 use Rattle.proxy_filter.specs.declared.Filter.{Filter}
-use Rattle.proxy_filter.specs.declared.Place.{Place}
-use Rattle.proxy_filter.specs.declared.Place.the-variants.{At, Nowhere}
 use Rattle.proxy_filter.specs.declared.FilterStep.{FilterStep}
 use Rattle.proxy_filter.specs.declared.PassAnswer.{PassAnswer}
 use Rattle.proxy_filter.specs.declared.PassAnswer.the-variants as P
-
--- ---- one address: "0x0000, already there (adding), absent (removing) or no room: skipped"
-
--- an address put after the others, if there is room
-abbrev pub appended : List Entry → ℕ → List Entry
-appended l a = cond (leb 16 (length l)) l (l ++ (entry a ∷ []))
-
--- "every address before the place stays, every one after it moves down by one"
-abbrev pub without : List Entry → ℕ → List Entry
-without l at = take at l ++ drop (suc at) l
-
--- by the place at which the address was found
-abbrev pub changedAt : Change → Place → List Entry → ℕ → List Entry
-changedAt Add (At p) l a = l
-changedAt Add Nowhere l a = appended l a
-changedAt Remove (At p) l a = without l p
-changedAt Remove Nowhere l a = l
-
--- ONE ADDRESS
-unfoldable pub changed : Change → List Entry → ℕ → List Entry
-changed c l a = cond (eqb a 0) l (changedAt c (find l a) l a)
-
--- "Each address in turn"
-abbrev pub changedAll : Change → List Entry → List ℕ → List Entry
-changedAll c l [] = l
-changedAll c l (a ∷ more) = changedAll c (changed c l a) more
 
 -- the addresses in octets, two octets each
 abbrev pub addresses : List ℕ → List ℕ

@@ -1,4 +1,7 @@
 // The proxy filter: an accept list or a reject list of at most 16 addresses.
+use filter_entries::Entry;
+use filter_entries::Place;
+use filter_entries::find_from;
 use filter_messages::Change;
 use filter_messages::FilterAnswer;
 use filter_messages::FilterRefusal;
@@ -7,30 +10,20 @@ use filter_messages::Request;
 use filter_messages::request_of;
 use octets::read16;
 ghost use mathlib.Core.Path.{_≡_};
-ghost use mathlib.Core.Bool.{true, _&&_, not};
+ghost use mathlib.Core.Bool.{true};
 ghost use mathlib.Core.List.{_++_, _∷_, []};
-ghost use Prim.Native.Nat.{suc, _≤_, _<_};
-ghost use lib.Dec.{eqb};
-ghost use lib.ListN.{length, take, drop};
-ghost use Rattle.proxy_filter.specs.Filters.{held, past, unused, holding, findFrom, isOn, allAllowed, allUnused, isGood};
-ghost use Rattle.proxy_filter.specs.Calls.{new, appended, without, changed, changedAll, addresses, changeFor, isUnicast, reporting, refusing, controlled, learned, passing, passAnswer};
-
-// A place of the list; 0x0000 where it is not in use.
-pub struct Entry {
-    pub address: u16,
-}
+ghost use Prim.Native.Nat.{suc, _<_};
+ghost use lib.ListN.{take, drop};
+ghost use Rattle.filter_entries.specs.Entries.{unused, find};
+ghost use Rattle.filter_entries.specs.Changes.{appended, without, changed, changedAll};
+ghost use Rattle.proxy_filter.specs.Filters.{held, holding, isGood};
+ghost use Rattle.proxy_filter.specs.Calls.{new, addresses, changeFor, isUnicast, reporting, refusing, controlled, learned, passing, passAnswer};
 
 // The addresses are the first count entries, in order of adding.
 pub struct Filter {
     pub kind: FilterType,
     pub count: u8,
     pub entries: [Entry; 16],
-}
-
-// The place of an address among those held, from 0.
-pub enum Place {
-    At(usize),
-    Nowhere,
 }
 
 // The filter after a call, and the call's answer.
@@ -51,11 +44,10 @@ fn close_place(entries: [Entry; 16], at: usize) -> [Entry; 16]
     ensures { λ r. ⌜ r ≡ take at entries ++ drop (suc at) entries ++ (unused ∷ []) ⌝ }
 {
     let mut closed = entries;
-    let mut j = 0;
-    while at + j < 15 {
-        let next = entries[at + j + 1];
-        closed[at + j] = next;
-        j += 1;
+    let mut i = at;
+    while i < 15 {
+        closed[i] = entries[i + 1];
+        i += 1;
     }
     closed[15] = Entry { address: 0 };
     closed
@@ -117,90 +109,20 @@ impl Filter {
         Filter::empty(FilterType::AcceptList)
     }
 
-    // The lookup: the place of an address among those held from a place on.
-    fn find_from(self, from: usize, address: u16) -> Place
-        requires { ⌜ self .count ≤ 16 ⌝ }
-        ensures { λ r. ⌜ r ≡ findFrom from (drop from (held self)) address ⌝ }
+    // The lookup: the place of an address among those held.
+    fn find(self, address: u16) -> Place
+        ensures { λ r. ⌜ r ≡ find (held self) address ⌝ }
     {
         let entries = self.entries;
-        let count = self.count as usize;
-        let mut i = from;
-        while i < count {
-            let entry = entries[i];
-            if entry.address == address {
-                return Place::At(i);
-            }
-            i += 1;
-        }
-        Place::Nowhere
-    }
-
-    // Whether an address isn't 0x0000 and isn't among those held from a place on.
-    fn is_allowed(self, address: u16, from: usize) -> bool
-        requires { ⌜ self .count ≤ 16 ⌝ }
-        ensures { λ r. ⌜ r ≡ (not (eqb address 0) && not (isOn (drop from (held self)) address)) ⌝ }
-    {
-        if address == 0 {
-            return false;
-        }
-        let place = self.find_from(from, address);
-        match place {
-            Place::At(_) => false,
-            Place::Nowhere => true,
-        }
-    }
-
-    // Whether no address held is 0x0000 or repeated.
-    fn all_allowed(self) -> bool
-        requires { ⌜ self .count ≤ 16 ⌝ }
-        ensures { λ r. ⌜ r ≡ allAllowed (held self) ⌝ }
-    {
-        let entries = self.entries;
-        let count = self.count as usize;
-        let mut i = 0;
-        while i < count {
-            let entry = entries[i];
-            if self.is_allowed(entry.address, i + 1) {
-                i += 1;
-            } else {
-                return false;
-            }
-        }
-        true
-    }
-
-    // Whether no place past the count is in use.
-    fn past_unused(self) -> bool
-        requires { ⌜ self .count ≤ 16 ⌝ }
-        ensures { λ r. ⌜ r ≡ allUnused (past self) ⌝ }
-    {
-        let entries = self.entries;
-        let count = self.count as usize;
-        let mut i = count;
-        while i < 16 {
-            let entry = entries[i];
-            if entry.address == 0 {
-                i += 1;
-            } else {
-                return false;
-            }
-        }
-        true
+        find_from(entries, self.count as usize, 0, address)
     }
 
     // Whether the filter isn't bad.
     fn is_good(self) -> bool
         ensures { λ r. ⌜ r ≡ isGood self ⌝ }
     {
-        if self.count <= 16 {
-            if self.all_allowed() {
-                self.past_unused()
-            } else {
-                false
-            }
-        } else {
-            false
-        }
+        let entries = self.entries;
+        filter_entries::is_good(entries, self.count as usize)
     }
 
     // An address is put after the others, if there is room.
@@ -237,7 +159,7 @@ impl Filter {
         if address == 0 {
             return self;
         }
-        let place = self.find_from(0, address);
+        let place = self.find(address);
         match change {
             Change::Add => match place {
                 Place::At(_) => return self,
@@ -335,7 +257,7 @@ impl Filter {
                 return PassAnswer::DoesNotPass;
             }
             let kind = self.kind;
-            let place = self.find_from(0, destination);
+            let place = self.find(destination);
             return pass_answer(kind, place);
         }
         PassAnswer::BadState

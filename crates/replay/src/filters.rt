@@ -1,11 +1,11 @@
 // The proxy filter.
 use crate::values::put8;
 use crate::values::put16;
+use filter_entries::Entry;
 use filter_messages::FilterAnswer;
 use filter_messages::FilterType;
 use octets::octet_at;
 use octets::read16;
-use proxy_filter::Entry;
 use proxy_filter::Filter;
 use proxy_filter::FilterStep;
 use proxy_filter::PassAnswer;

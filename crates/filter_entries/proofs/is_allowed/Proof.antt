@@ -1,11 +1,10 @@
 -- By the lookup: an address is on a list exactly if it is found.
 use borrow.Author.Needs.{needs}
 use borrow.Author.Tests.{eq-eqb, ne-eqb}
-use lib.ListN.{drop}
-use Rattle.proxy_filter.proofs.Lookup.{on-found}
-use Rattle.proxy_filter.specs.Filters.{held}
-use Rattle.proxy_filter.proofs.Filter.is_allowed.Statement.{statement}
-use Rattle.proxy_filter.proofs.Filter.is_allowed.Tie as tie
+use lib.ListN.{take, drop}
+use Rattle.filter_entries.proofs.Lookup.{on-found}
+use Rattle.filter_entries.proofs.is_allowed.Statement.{statement}
+use Rattle.filter_entries.proofs.is_allowed.Tie as tie
 
 returns : tie.Need-returns
 returns c = simp (eq-eqb _ _ (c .if1 .taken))
@@ -24,7 +23,7 @@ returns-2 c =
     let a = c .before .before .before .before .args in
     simp (
       ne-eqb _ _ (c .before .before .before .if1 .left),
-      on-found (drop (a .from) (held (a .self))) (a .address) (a .from),
+      on-found (drop (a .from) (take (a .count) (a .entries))) (a .address) (a .from),
       ← (c .before .before .find-from .ensures),
       c .enum-told .given .1,
     )
@@ -34,7 +33,7 @@ returns-3 c =
     let a = c .before .before .before .before .args in
     simp (
       ne-eqb _ _ (c .before .before .before .if1 .left),
-      on-found (drop (a .from) (held (a .self))) (a .address) (a .from),
+      on-found (drop (a .from) (take (a .count) (a .entries))) (a .address) (a .from),
       ← (c .before .before .find-from .ensures),
       c .enum-told2 .given .1,
     )

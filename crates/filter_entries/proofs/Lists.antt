@@ -5,20 +5,17 @@ use mathlib.Core.Bool.{Bool, true, false, _&&_, _||_, not, and-eq-true-iff}
 use mathlib.Core.List.{List, [], _∷_, _++_}
 use mathlib.Core.Path.{_≡_, refl, sym, ap, _∙_}
 use lib.Dec.{leb, eqb}
-use lib.ListN.{length, drop, length-append, length-take}
+use lib.ListN.{length, drop, length-append}
 use lib.Seq.{take-at}
 use borrow.Author.Tests.{eq-eqb, ne-eqb, eqb-true, eqb-false, leb-false, not-true}
 use Rattle.octets.proofs.Tests.{cases}
 use Rattle.filter_messages.specs.declared.Change.{Change}
 use Rattle.filter_messages.specs.declared.Change.the-variants.{Add, Remove}
-use Rattle.proxy_filter.specs.Filters.{entry, held, isGood, isOn, find, allAllowed}
-use Rattle.proxy_filter.specs.Calls.{without, changed, changedAt, changedAll}
-use Rattle.proxy_filter.specs.Promises.{allBut}
-use Rattle.proxy_filter.specs.declared.Entry.{Entry}
-use Rattle.proxy_filter.specs.declared.Filter.{Filter}
-use Rattle.proxy_filter.specs.declared.Place.{Place}
-use Rattle.proxy_filter.proofs.Lookup.{Found, there, absent, found}
-use Rattle.proxy_filter.proofs.Holding.{good-count, good-held}
+use Rattle.filter_entries.specs.Entries.{entry, isOn, find, allAllowed}
+use Rattle.filter_entries.specs.Changes.{without, changed, changedAt, changedAll, allBut}
+use Rattle.filter_entries.specs.declared.Entry.{Entry}
+use Rattle.filter_entries.specs.declared.Place.{Place}
+use Rattle.filter_entries.proofs.Lookup.{Found, there, absent, found}
 
 -- ---- membership
 
@@ -66,10 +63,6 @@ allowed-without (o ∷ x) e y h =
 pub record Fine (l : List Entry) : Type 0 where
   pub few : length l ≤ 16
   pub allowed : allAllowed l ≡ true
-
--- the list of a filter that isn't bad
-pub fine-held : (f : Filter) → isGood f ≡ true → Fine (held f)
-fine-held f g = record { few = omega (arith, length-take (f .count) (f .entries), good-count f g); allowed = good-held f g }
 
 past-first : (x : List Entry) (e : Entry) (y : List Entry) → drop (suc (length x)) (x ++ e ∷ y) ≡ y
 past-first [] e y = refl

@@ -7,25 +7,20 @@ use lib.ListN.{length, drop}
 use mathlib.Core.Path.{_≡_, refl}
 use native.Mathlib.Omega.{arith}
 use Rattle.octets.proofs.Loops.{goes-on, stops, nothing-left}
-use Rattle.proxy_filter.proofs.Places.{length-mapped}
-use Rattle.proxy_filter.specs.Filters.{unused, allUnused}
-use Rattle.proxy_filter.proofs.Filter.past_unused.Statement.{statement}
-use Rattle.proxy_filter.proofs.Filter.past_unused.Tie as tie
+use Rattle.filter_entries.specs.Entries.{unused, allUnused}
+use Rattle.filter_entries.proofs.past_unused.Statement.{statement}
+use Rattle.filter_entries.proofs.past_unused.Tie as tie
 
 abbrev Inv-loop : tie.InvT-loop
-Inv-loop entries count i₀ i =
+Inv-loop count entries i₀ i =
     (length entries ≡ 16) × (allUnused (drop i entries) ≡ allUnused (drop count entries))
 
 abbrev μ-loop : tie.MeasureT-loop
-μ-loop entries count i₀ i = 16 - i
-
-cast-count : tie.Need-cast-count Inv-loop μ-loop
-cast-count c = search needs
+μ-loop count entries i₀ i = 16 - i
 
 loop-holds : tie.Need-loop-holds Inv-loop μ-loop
 loop-holds c =
-    let f = c .before .before .args .self in
-    let n : length (f .entries) ≡ 16 = search (needs, length-mapped) in
+    let n : length (c .args .t1) ≡ 16 = search needs in
     (n, refl)
 
 mul-entry : tie.Need-mul-entry Inv-loop μ-loop
@@ -43,19 +38,19 @@ loop-less c = search needs
 loop-again : tie.Need-loop-again Inv-loop μ-loop
 loop-again c =
     let s = c .before .before .before .before in
-    let f = s .before .before .before .args .self in (
+    let a = s .before .args in (
       s .loop .inv .0,
-      goes-on allUnused (λ e l. eqb (e .address) 0) (λ e l. refl) (f .entries) (s .loop .i) unused (s .loop .inv .1) (omega arith) refl (eq-eqb _ _ (c .if1 .taken)),
+      goes-on allUnused (λ e l. eqb (e .address) 0) (λ e l. refl) (a .t1) (s .loop .i) unused (s .loop .inv .1) (omega arith) refl (eq-eqb _ _ (c .if1 .taken)),
     )
 
 returns : tie.Need-returns Inv-loop μ-loop
 returns c =
     let s = c .before .before .before .before in
-    let f = s .before .before .before .args .self in
-    stops allUnused (λ e l. eqb (e .address) 0) (λ e l. refl) (f .entries) (s .loop .i) unused (s .loop .inv .1) (omega arith) refl (ne-eqb _ _ (c .if1 .left))
+    let a = s .before .args in
+    stops allUnused (λ e l. eqb (e .address) 0) (λ e l. refl) (a .t1) (s .loop .i) unused (s .loop .inv .1) (omega arith) refl (ne-eqb _ _ (c .if1 .left))
 
 returns-2 : tie.Need-returns-2 Inv-loop μ-loop
-returns-2 c = nothing-left allUnused (c .before .before .before .before .args .self .entries) (c .before .loop .i) (c .before .loop .inv .1) (omega arith)
+returns-2 c = nothing-left allUnused (c .before .before .args .t1) (c .before .loop .i) (c .before .loop .inv .1) (omega arith)
 
 pub past-unused-spec : {M : Type 1} → statement M
 past-unused-spec =
@@ -63,7 +58,6 @@ past-unused-spec =
     (tie.spec
     Inv-loop
     μ-loop
-    cast-count
     loop-holds
     mul-entry
     array-copy-out-entry

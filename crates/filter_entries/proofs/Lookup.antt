@@ -11,10 +11,10 @@ use lib.ListN.{length, drop, getD, length-append}
 use borrow.Author.Tests.{eqb-true}
 use Rattle.octets.proofs.Loops.{left-here}
 use Rattle.octets.proofs.Tests.{cases}
-use Rattle.proxy_filter.specs.Filters.{unused, isOn, findFrom}
-use Rattle.proxy_filter.specs.declared.Entry.{Entry}
-use Rattle.proxy_filter.specs.declared.Place.{Place}
-use Rattle.proxy_filter.specs.declared.Place.the-variants.{At, Nowhere}
+use Rattle.filter_entries.specs.Entries.{unused, isOn, findFrom}
+use Rattle.filter_entries.specs.declared.Entry.{Entry}
+use Rattle.filter_entries.specs.declared.Place.{Place}
+use Rattle.filter_entries.specs.declared.Place.the-variants.{At, Nowhere}
 
 module _ (l : List Entry) (i a : ℕ) {t : Bool} {r : Place} (inv : findFrom i (drop i l) a ≡ r) (h : i < length l) (e : eqb (getD l i unused .address) a ≡ t) where
   here : findFrom i (drop i l) a ≡ cond t (At i) (findFrom (i + 1) (drop (i + 1) l) a)
