@@ -4,8 +4,11 @@ use Rattle.fcs.specs.Fcs.{checkOctet, octetStep, bitStep}
 use Rattle.beacon.specs.Rules.{outOfWindow}
 use Rattle.octets.specs.Cut.{piece, upTo}
 use Rattle.proxy.specs.Pieces.{lastPiece, topBits, pieceOctets}
-use Rattle.proxy_filter.specs.Filters.{findFrom, holding, isGood}
-use Rattle.proxy_filter.specs.Calls.{changed, changeOf, requestOf, controlled}
+use Rattle.filter_messages.specs.Messages.{changeOf, requestOf}
+use Rattle.filter_entries.specs.Entries.{findFrom}
+use Rattle.filter_entries.specs.Changes.{changed}
+use Rattle.proxy_filter.specs.Filters.{holding, isGood}
+use Rattle.proxy_filter.specs.Calls.{controlled}
 use Rattle.figures.specs.Figures.{FiguresHold}
 
 pub figures-hold : FiguresHold

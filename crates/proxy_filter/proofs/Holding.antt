@@ -5,14 +5,16 @@ use mathlib.Core.Bool.{true, and-eq-true-iff}
 use mathlib.Core.List.{List, [], _∷_, _++_, append-assoc}
 use mathlib.Core.Path.{_≡_, refl, sym, ap, _∙_}
 use lib.Dec.{leb}
-use lib.ListN.{length, take, drop, set, replicate, length-append, length-drop, take-append-drop, length-replicate, replicate-append-replicate}
+use lib.ListN.{length, take, drop, set, replicate, length-append, length-take, length-drop, take-append-drop, length-replicate, replicate-append-replicate}
 use lib.Seq.{take-append-le, drop-append-le, take-at, drop-at, set-at, length-take-le, append-snoc}
 use borrow.Author.Tests.{le-leb, lt-leb, leb-true, eqb-true}
 use Rattle.octets.proofs.Tests.{both-hold}
-use Rattle.proxy_filter.specs.Filters.{entry, unused, held, past, holding, allAllowed, allUnused, isGood}
-use Rattle.proxy_filter.specs.Calls.{appended, without}
-use Rattle.proxy_filter.specs.declared.FilterType.{FilterType}
-use Rattle.proxy_filter.specs.declared.Entry.{Entry}
+use Rattle.filter_messages.specs.declared.FilterType.{FilterType}
+use Rattle.filter_entries.specs.Entries.{entry, unused, allAllowed, allUnused}
+use Rattle.filter_entries.specs.Changes.{appended, without}
+use Rattle.filter_entries.specs.declared.Entry.{Entry}
+use Rattle.filter_entries.proofs.Lists.{Fine}
+use Rattle.proxy_filter.specs.Filters.{held, past, holding, isGood}
 use Rattle.proxy_filter.specs.declared.Filter.{Filter}
 
 -- a list of places that are not in use
@@ -59,8 +61,12 @@ good-parts f h = let b = and-eq-true-iff (leb (f .count) 16) _ .0 h in (b .0, an
 pub good-count : (f : Filter) → isGood f ≡ true → f .count ≤ 16
 good-count f h = leb-true (f .count) 16 (good-parts f h .0)
 
-pub good-held : (f : Filter) → isGood f ≡ true → allAllowed (held f) ≡ true
+good-held : (f : Filter) → isGood f ≡ true → allAllowed (held f) ≡ true
 good-held f h = good-parts f h .1 .0
+
+-- its list
+pub fine-held : (f : Filter) → isGood f ≡ true → Fine (held f)
+fine-held f g = record { few = omega (arith, length-take (f .count) (f .entries), good-count f g); allowed = good-held f g }
 
 module _ (f : Filter) (long : length (f .entries) ≡ 16) (good : isGood f ≡ true) where
   pub held-length : length (held f) ≡ f .count

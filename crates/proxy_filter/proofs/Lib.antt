@@ -1,6 +1,4 @@
-mod Lookup
 mod Places
 mod Holding
-mod Lists
 mod Turns
 pub mod Promises

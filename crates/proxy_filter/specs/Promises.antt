@@ -8,11 +8,14 @@ use lib.Dec.{eqb}
 use lib.ListN.{length}
 use Rattle.octets.specs.Numbers.{octets16}
 use Rattle.octets.specs.Told.{Told, refused, answered}
-use Rattle.proxy_filter.specs.Filters.{entry, held, holding, isOn, isGood}
-use Rattle.proxy_filter.specs.Calls.{new, changedAll, statusOctets, controlled, isUnicast, learned, passing, reporting, told, passTold}
-use Rattle.proxy_filter.specs.declared.FilterType.the-variants.{AcceptList, RejectList}
-use Rattle.proxy_filter.specs.declared.Change.the-variants.{Add, Remove}
-use Rattle.proxy_filter.specs.declared.Entry.{Entry}
+use Rattle.filter_messages.specs.Messages.{statusOctets, told}
+use Rattle.filter_messages.specs.declared.FilterType.the-variants.{AcceptList, RejectList}
+use Rattle.filter_messages.specs.declared.Change.the-variants.{Add, Remove}
+use Rattle.filter_entries.specs.Entries.{entry, isOn}
+use Rattle.filter_entries.specs.Changes.{changedAll, allBut}
+use Rattle.filter_entries.specs.declared.Entry.{Entry}
+use Rattle.proxy_filter.specs.Filters.{held, holding, isGood}
+use Rattle.proxy_filter.specs.Calls.{new, controlled, isUnicast, learned, passing, reporting, passTold}
 use Rattle.proxy_filter.specs.declared.Filter.{Filter}
 use Rattle.proxy_filter.specs.declared.FilterStep.{FilterStep}
 
@@ -64,11 +67,6 @@ Additions = (f : Filter) (a : ℕ) → isGood f ≡ true → Addition f a
 -- the list held after the message that removes an address
 abbrev pub afterRemoving : Filter → ℕ → List Entry
 afterRemoving f a = held (controlled f (0x02 ∷ octetsOf (a ∷ [])) .filter)
-
--- a list without an address, in order
-abbrev pub allBut : ℕ → List Entry → List Entry
-allBut a [] = []
-allBut a (e ∷ l) = cond (eqb (e .address) a) (allBut a l) (e ∷ allBut a l)
 
 pub record Removal (f : Filter) (a : ℕ) : Type 0 where
   pub others : afterRemoving f a ≡ allBut a (held f)

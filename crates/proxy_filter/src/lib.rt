@@ -1,63 +1,29 @@
 // The proxy filter: an accept list or a reject list of at most 16 addresses.
-use octets::octet_at;
+use filter_entries::Entry;
+use filter_entries::Place;
+use filter_entries::find_from;
+use filter_messages::Change;
+use filter_messages::FilterAnswer;
+use filter_messages::FilterRefusal;
+use filter_messages::FilterType;
+use filter_messages::Request;
+use filter_messages::request_of;
 use octets::read16;
 ghost use mathlib.Core.Path.{_≡_};
-ghost use mathlib.Core.Bool.{true, _&&_, not};
+ghost use mathlib.Core.Bool.{true};
 ghost use mathlib.Core.List.{_++_, _∷_, []};
-ghost use Prim.Native.Nat.{suc, _≤_, _<_};
-ghost use lib.Dec.{eqb};
-ghost use lib.ListN.{length, take, drop};
-ghost use Rattle.proxy_filter.specs.Filters.{held, past, unused, holding, findFrom, isOn, allAllowed, allUnused, isGood};
-ghost use Rattle.proxy_filter.specs.Calls.{new, appended, without, changed, changedAll, addresses, changeFor, isUnicast, statusOctets, reporting, refusing, requestOf, typeOf, changeOf, controlled, learned, passing, passAnswer};
-
-pub enum FilterType {
-    AcceptList,
-    RejectList,
-}
-
-// A place of the list; 0x0000 where it is not in use.
-pub struct Entry {
-    pub address: u16,
-}
+ghost use Prim.Native.Nat.{suc, _<_};
+ghost use lib.ListN.{take, drop};
+ghost use Rattle.filter_entries.specs.Entries.{unused, find};
+ghost use Rattle.filter_entries.specs.Changes.{appended, without, changed, changedAll};
+ghost use Rattle.proxy_filter.specs.Filters.{held, holding, isGood};
+ghost use Rattle.proxy_filter.specs.Calls.{new, addresses, changeFor, isUnicast, reporting, refusing, controlled, learned, passing, passAnswer};
 
 // The addresses are the first count entries, in order of adding.
 pub struct Filter {
     pub kind: FilterType,
     pub count: u8,
     pub entries: [Entry; 16],
-}
-
-// The place of an address among those held, from 0.
-pub enum Place {
-    At(usize),
-    Nowhere,
-}
-
-// What is done with an address.
-pub enum Change {
-    Add,
-    Remove,
-}
-
-pub enum FilterRefusal {
-    BadState,
-    Empty,
-    UnknownOpcode,
-    WrongLength,
-    UnknownType,
-    NotUnicast,
-}
-
-// What a message asks for.
-pub enum Request {
-    SetType(FilterType),
-    Change(Change),
-    Refused(FilterRefusal),
-}
-
-pub enum FilterAnswer {
-    Status { kind: FilterType, count: u8 },
-    Refused(FilterRefusal),
 }
 
 // The filter after a call, and the call's answer.
@@ -72,81 +38,19 @@ pub enum PassAnswer {
     BadState,
 }
 
-// The four octets of a filter status message.
-pub fn status_octets(kind: FilterType, count: u8) -> [u8; 4]
-    ensures { λ r. ⌜ r ≡ statusOctets kind count ⌝ }
-{
-    match kind {
-        FilterType::AcceptList => [3, 0, 0, count],
-        FilterType::RejectList => [3, 1, 0, count],
-    }
-}
-
 // The entries with the one at a place taken out, those after it moved down by one, and the last place not in use.
 fn close_place(entries: [Entry; 16], at: usize) -> [Entry; 16]
     requires { ⌜ at < 16 ⌝ }
     ensures { λ r. ⌜ r ≡ take at entries ++ drop (suc at) entries ++ (unused ∷ []) ⌝ }
 {
     let mut closed = entries;
-    let mut j = 0;
-    while at + j < 15 {
-        let next = entries[at + j + 1];
-        closed[at + j] = next;
-        j += 1;
+    let mut i = at;
+    while i < 15 {
+        closed[i] = entries[i + 1];
+        i += 1;
     }
     closed[15] = Entry { address: 0 };
     closed
-}
-
-// What a message to set the type asks for.
-fn type_of(message: &[u8]) -> Request
-    requires { ⌜ 0 < length (now message) ⌝ }
-    ensures { λ r. ⌜ r ≡ typeOf (now (message .entry)) ⌝ }
-{
-    if message.len() - 1 == 1 {
-        let kind = octet_at(message, 1);
-        if kind == 0 {
-            return Request::SetType(FilterType::AcceptList);
-        }
-        if kind == 1 {
-            return Request::SetType(FilterType::RejectList);
-        }
-        return Request::Refused(FilterRefusal::UnknownType);
-    }
-    Request::Refused(FilterRefusal::WrongLength)
-}
-
-// What a message to add or to remove addresses asks for.
-fn change_of(change: Change, message: &[u8]) -> Request
-    requires { ⌜ 0 < length (now message) ⌝ }
-    ensures { λ r. ⌜ r ≡ changeOf change (now (message .entry)) ⌝ }
-{
-    if message.len() - 1 <= 32 {
-        if (message.len() - 1) % 2 == 0 {
-            return Request::Change(change);
-        }
-    }
-    Request::Refused(FilterRefusal::WrongLength)
-}
-
-// What a message asks for.
-fn request_of(message: &[u8]) -> Request
-    ensures { λ r. ⌜ r ≡ requestOf (now (message .entry)) ⌝ }
-{
-    if message.len() == 0 {
-        return Request::Refused(FilterRefusal::Empty);
-    }
-    let opcode = octet_at(message, 0);
-    if opcode == 0 {
-        return type_of(message);
-    }
-    if opcode == 1 {
-        return change_of(Change::Add, message);
-    }
-    if opcode == 2 {
-        return change_of(Change::Remove, message);
-    }
-    Request::Refused(FilterRefusal::UnknownOpcode)
 }
 
 // What is done with a source address.
@@ -205,90 +109,20 @@ impl Filter {
         Filter::empty(FilterType::AcceptList)
     }
 
-    // The lookup: the place of an address among those held from a place on.
-    fn find_from(self, from: usize, address: u16) -> Place
-        requires { ⌜ self .count ≤ 16 ⌝ }
-        ensures { λ r. ⌜ r ≡ findFrom from (drop from (held self)) address ⌝ }
+    // The lookup: the place of an address among those held.
+    fn find(self, address: u16) -> Place
+        ensures { λ r. ⌜ r ≡ find (held self) address ⌝ }
     {
         let entries = self.entries;
-        let count = self.count as usize;
-        let mut i = from;
-        while i < count {
-            let entry = entries[i];
-            if entry.address == address {
-                return Place::At(i);
-            }
-            i += 1;
-        }
-        Place::Nowhere
-    }
-
-    // Whether an address isn't 0x0000 and isn't among those held from a place on.
-    fn is_allowed(self, address: u16, from: usize) -> bool
-        requires { ⌜ self .count ≤ 16 ⌝ }
-        ensures { λ r. ⌜ r ≡ (not (eqb address 0) && not (isOn (drop from (held self)) address)) ⌝ }
-    {
-        if address == 0 {
-            return false;
-        }
-        let place = self.find_from(from, address);
-        match place {
-            Place::At(_) => false,
-            Place::Nowhere => true,
-        }
-    }
-
-    // Whether no address held is 0x0000 or repeated.
-    fn all_allowed(self) -> bool
-        requires { ⌜ self .count ≤ 16 ⌝ }
-        ensures { λ r. ⌜ r ≡ allAllowed (held self) ⌝ }
-    {
-        let entries = self.entries;
-        let count = self.count as usize;
-        let mut i = 0;
-        while i < count {
-            let entry = entries[i];
-            if self.is_allowed(entry.address, i + 1) {
-                i += 1;
-            } else {
-                return false;
-            }
-        }
-        true
-    }
-
-    // Whether no place past the count is in use.
-    fn past_unused(self) -> bool
-        requires { ⌜ self .count ≤ 16 ⌝ }
-        ensures { λ r. ⌜ r ≡ allUnused (past self) ⌝ }
-    {
-        let entries = self.entries;
-        let count = self.count as usize;
-        let mut i = count;
-        while i < 16 {
-            let entry = entries[i];
-            if entry.address == 0 {
-                i += 1;
-            } else {
-                return false;
-            }
-        }
-        true
+        find_from(entries, self.count as usize, 0, address)
     }
 
     // Whether the filter isn't bad.
     fn is_good(self) -> bool
         ensures { λ r. ⌜ r ≡ isGood self ⌝ }
     {
-        if self.count <= 16 {
-            if self.all_allowed() {
-                self.past_unused()
-            } else {
-                false
-            }
-        } else {
-            false
-        }
+        let entries = self.entries;
+        filter_entries::is_good(entries, self.count as usize)
     }
 
     // An address is put after the others, if there is room.
@@ -325,7 +159,7 @@ impl Filter {
         if address == 0 {
             return self;
         }
-        let place = self.find_from(0, address);
+        let place = self.find(address);
         match change {
             Change::Add => match place {
                 Place::At(_) => return self,
@@ -423,7 +257,7 @@ impl Filter {
                 return PassAnswer::DoesNotPass;
             }
             let kind = self.kind;
-            let place = self.find_from(0, destination);
+            let place = self.find(destination);
             return pass_answer(kind, place);
         }
         PassAnswer::BadState

@@ -1,14 +1,14 @@
 // Document 01's numbers of refusals, for programs that print them. Each is the number that the definitions give.
 use beacon::BeaconRefusal;
+use filter_messages::FilterRefusal;
 use links::Refusal;
 use provisioning::MessageRefusal;
 use proxy::PieceRefusal;
-use proxy_filter::FilterRefusal;
 ghost use mathlib.Core.Path.{_≡_};
 ghost use Rattle.links.specs.Links.{refusalNumber as stationNumber};
 ghost use Rattle.provisioning.specs.Message.{refusalNumber as messageNumber};
 ghost use Rattle.proxy.specs.Transfers.{refusalNumber as pieceNumber};
-ghost use Rattle.proxy_filter.specs.Calls.{refusalNumber as filterNumber};
+ghost use Rattle.filter_messages.specs.Messages.{refusalNumber as filterNumber};
 ghost use Rattle.beacon.specs.Beacons.{refusalNumber as beaconNumber};
 
 // Of the station's calls.

@@ -1,13 +1,13 @@
 // The proxy filter.
 use crate::values::put8;
 use crate::values::put16;
+use filter_entries::Entry;
+use filter_messages::FilterAnswer;
+use filter_messages::FilterType;
 use octets::octet_at;
 use octets::read16;
-use proxy_filter::Entry;
 use proxy_filter::Filter;
-use proxy_filter::FilterAnswer;
 use proxy_filter::FilterStep;
-use proxy_filter::FilterType;
 use proxy_filter::PassAnswer;
 use script::Outcome;
 
@@ -89,7 +89,7 @@ pub(super) fn show(filter: Filter, values: &mut [u8]) -> Outcome {
 }
 
 fn status(kind: FilterType, count: u8, values: &mut [u8]) -> Outcome {
-    let octets = proxy_filter::status_octets(kind, count);
+    let octets = filter_messages::status_octets(kind, count);
     octet_parts::copy(values, 0, &octets, 0, 4);
     Outcome::Values {
         letter: b'F',

@@ -116,7 +116,7 @@ fn read(transfer: Transfer, x: &[u8], storage: &mut [u8], values: &mut [u8]) -> 
     if storage.len() < lent {
         return keep(transfer, Outcome::Malformed);
     }
-    let read = proxy::read_piece(transfer, &mut storage[0..lent], &x[2..]);
+    let read = proxy_reading::read_piece(transfer, &mut storage[0..lent], &x[2..]);
     let after = read.transfer;
     let answer = read.answer;
     let outcome = piece_outcome(answer, values);
@@ -127,7 +127,7 @@ fn count(x: &[u8], values: &mut [u8]) -> Outcome {
     if x.len() != 4 {
         return Outcome::Malformed;
     }
-    let counted = proxy::count_pieces(read16(x, 0) as usize, read16(x, 2) as usize);
+    let counted = proxy_writing::count_pieces(read16(x, 0) as usize, read16(x, 2) as usize);
     match counted {
         PieceCount::Pieces(n) => {
             put8(values, 0, (n % 256) as u8);
@@ -147,11 +147,11 @@ fn perform_bare(operation: u8, transfer: Transfer, values: &mut [u8]) -> Transfe
             keep(transfer, shown)
         }
         b'C' => {
-            let connected = proxy::connect(transfer);
+            let connected = proxy_reading::connect(transfer);
             after_connecting(connected)
         }
         b'X' => {
-            let connected = proxy::disconnect(transfer);
+            let connected = proxy_reading::disconnect(transfer);
             after_connecting(connected)
         }
         _ => keep(transfer, Outcome::Malformed),

@@ -46,7 +46,7 @@ fn piece(x: &[u8], output: &mut [u8]) -> Written {
     }
     let size = read16(x, 2) as usize;
     let index = octet_at(x, 5) as usize;
-    proxy::write_piece(size, octet_at(x, 4), &x[6..], index, output)
+    proxy_writing::write_piece(size, octet_at(x, 4), &x[6..], index, output)
 }
 
 fn written_by(operation: u8, x: &[u8], output: &mut [u8]) -> Written {

@@ -4,11 +4,11 @@ use borrow.Author.Tests.{eq-eqb, ne-eqb}
 use lib.ListN.{length}
 use mathlib.Core.Path.{_≡_, sym, _∙_}
 use native.Mathlib.Omega.{arith}
-use Rattle.proxy_filter.proofs.Holding.{good-count, held-length, rebuilt}
-use Rattle.proxy_filter.proofs.Lookup.{found-below}
+use Rattle.filter_entries.specs.Changes.{changed}
+use Rattle.filter_entries.proofs.Lookup.{found-below}
+use Rattle.proxy_filter.proofs.Holding.{held-length, rebuilt}
 use Rattle.proxy_filter.proofs.Places.{length-mapped}
 use Rattle.proxy_filter.specs.Filters.{held}
-use Rattle.proxy_filter.specs.Calls.{changed}
 use Rattle.proxy_filter.proofs.Filter.change_one.Statement.{statement}
 use Rattle.proxy_filter.proofs.Filter.change_one.Tie as tie
 
@@ -19,8 +19,8 @@ returns c =
     let n : length (f .entries) ≡ 16 = search (needs, length-mapped) in
     simp (eq-eqb _ _ (c .if1 .taken)) (rebuilt f n (c .before .pre))
 
-find-from-requires : tie.Need-find-from-requires
-find-from-requires c κs = good-count (c .before .args .self) (c .before .pre)
+find-requires : tie.Need-find-requires
+find-requires c κs = search needs
 
 enum-told : tie.Need-enum-told
 enum-told c = search needs
@@ -36,7 +36,7 @@ returns-2 c =
     let n : length (f .entries) ≡ 16 = search (needs, length-mapped) in
     simp (
       ne-eqb _ _ (c .before .before .before .before .before .if1 .left),
-      ← (c .before .before .before .before .find-from .ensures),
+      ← (c .before .before .before .before .find .ensures),
       c .before .before .enum-told .given .1,
       c .enum-told2 .given .1,
     ) (rebuilt f n (c .before .before .before .before .before .before .pre))
@@ -54,7 +54,7 @@ returns-3 c =
     let f = a .self in
     simp (
       ne-eqb _ _ (c .before .before .before .before .before .before .if1 .left),
-      ← (c .before .before .before .before .before .find-from .ensures),
+      ← (c .before .before .before .before .before .find .ensures),
       c .before .before .before .enum-told .given .1,
       c .before .enum-told3 .given .1,
     ) (c .append .ensures)
@@ -70,7 +70,7 @@ remove-at-requires c κs =
     let a = c .before .before .before .before .before .before .before .args in
     let good = c .before .before .before .before .before .before .before .pre in
     let n : length (a .self .entries) ≡ 16 = search (needs, length-mapped) in
-    let found = sym (c .before .before .before .before .before .find-from .ensures) ∙ c .before .place .given .1 in
+    let found = sym (c .before .before .before .before .before .find .ensures) ∙ c .before .place .given .1 in
     (good, omega (arith, found-below (held (a .self)) (a .address) _ found, held-length (a .self) n good))
 
 returns-4 : tie.Need-returns-4
@@ -80,7 +80,7 @@ returns-4 c =
     let f = a .self in
     simp (
       ne-eqb _ _ (c .before .before .before .before .before .before .before .if1 .left),
-      ← (c .before .before .before .before .before .before .find-from .ensures),
+      ← (c .before .before .before .before .before .before .find .ensures),
       c .before .before .before .before .enum-told4 .given .1,
       c .before .before .place .given .1,
     ) (c .remove-at .ensures)
@@ -96,7 +96,7 @@ returns-5 c =
     let n : length (f .entries) ≡ 16 = search (needs, length-mapped) in
     simp (
       ne-eqb _ _ (c .before .before .before .before .before .if1 .left),
-      ← (c .before .before .before .before .find-from .ensures),
+      ← (c .before .before .before .before .find .ensures),
       c .before .before .enum-told4 .given .1,
       c .enum-told5 .given .1,
     ) (rebuilt f n (c .before .before .before .before .before .before .pre))
@@ -106,7 +106,7 @@ change-one-spec =
     tie.close
     (tie.spec
     returns
-    find-from-requires
+    find-requires
     enum-told
     enum-told-2
     returns-2

@@ -1,27 +1,17 @@
 use borrow.Author.Needs.{needs}
-use borrow.Author.Tests.{le-leb, lt-leb}
 use Rattle.proxy_filter.specs.Filters.{isGood}
 use Rattle.proxy_filter.proofs.Filter.is_good.Statement.{statement}
 use Rattle.proxy_filter.proofs.Filter.is_good.Tie as tie
 
-all-allowed-requires : tie.Need-all-allowed-requires
-all-allowed-requires c κs = search needs
+cast-is-good : tie.Need-cast-is-good
+cast-is-good c = search needs
 
-past-unused-requires : tie.Need-past-unused-requires
-past-unused-requires c κs = search needs
+is-good-requires : tie.Need-is-good-requires
+is-good-requires c κs = search needs
 
 returns : tie.Need-returns
 unfolding isGood
-returns c = simp (le-leb _ _ (c .before .before .before .if1 .taken), ← (c .before .before .all-allowed .ensures), c .before .if2 .taken, c .past-unused .ensures)
-
-returns-2 : tie.Need-returns-2
-unfolding isGood
-returns-2 c = simp (le-leb _ _ (c .before .before .if1 .taken), ← (c .before .all-allowed .ensures), c .if2 .left)
-
-returns-3 : tie.Need-returns-3
-unfolding isGood
-returns-3 c = simp (lt-leb _ _ (c .if1 .left))
+returns c = c .is-good .ensures
 
 pub is-good-spec : {M : Type 1} → statement M
-is-good-spec =
-    tie.close (tie.spec all-allowed-requires past-unused-requires returns returns-2 returns-3)
+is-good-spec = tie.close (tie.spec cast-is-good is-good-requires returns)

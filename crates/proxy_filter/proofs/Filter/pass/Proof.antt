@@ -1,7 +1,5 @@
 use borrow.Author.Needs.{needs}
 use borrow.Author.Tests.{eq-eqb, ne-eqb}
-use mathlib.Core.Path.{sym, _∙_}
-use Rattle.proxy_filter.proofs.Holding.{good-count}
 use Rattle.proxy_filter.specs.Calls.{passing}
 use Rattle.proxy_filter.proofs.Filter.pass.Statement.{statement}
 use Rattle.proxy_filter.proofs.Filter.pass.Tie as tie
@@ -13,8 +11,8 @@ returns : tie.Need-returns
 unfolding passing
 returns c = simp (← (c .before .before .is-good .ensures), c .before .if1 .taken, eq-eqb _ _ (c .if2 .taken))
 
-find-from-requires : tie.Need-find-from-requires
-find-from-requires c κs = good-count (c .before .before .before .args .self) (sym (c .before .before .is-good .ensures) ∙ c .before .if1 .taken)
+find-requires : tie.Need-find-requires
+find-requires c κs = search needs
 
 pass-answer-requires : tie.Need-pass-answer-requires
 pass-answer-requires c κs = search needs
@@ -26,7 +24,7 @@ returns-2 c =
       ← (c .before .before .before .before .is-good .ensures),
       c .before .before .before .if1 .taken,
       ne-eqb _ _ (c .before .before .if2 .left),
-      ← (c .before .find-from .ensures),
+      ← (c .before .find .ensures),
       c .pass-answer .ensures,
     )
 
@@ -37,4 +35,4 @@ returns-3 c = simp (← (c .before .is-good .ensures), c .if1 .left)
 pub pass-spec : {M : Type 1} → statement M
 pass-spec =
     tie.close
-    (tie.spec is-good-requires returns find-from-requires pass-answer-requires returns-2 returns-3)
+    (tie.spec is-good-requires returns find-requires pass-answer-requires returns-2 returns-3)
