@@ -6,7 +6,7 @@ ghost use mathlib.Core.Path.{_≡_};
 ghost use mathlib.Core.Bool.{true, false};
 ghost use Prim.Native.Nat.{_+_, _≤_};
 ghost use lib.ListN.{length};
-ghost use Rattle.lines.specs.Streams.{Within, heldAfter, heldLine};
+ghost use Rattle.lines.specs.Streams.{Within};
 
 // How far a program has come in its input and its output.
 pub struct Streams {
@@ -157,22 +157,4 @@ pub fn add_waiting(streams: Streams, output: &[u8], count: usize) -> Streams
     let mut after = streams;
     after.waiting = before + count;
     after
-}
-
-// Holds a piece more of a line, as much as fits; how much the buffer then holds.
-pub fn hold(line: &mut [u8], held: usize, piece: &[u8]) -> usize
-    ensures { λ r. ⌜ (r ≡ heldAfter (now (line .entry)) held (now (piece .entry)))
-        × (now (line .exit) ≡ heldLine (now (line .entry)) held (now (piece .entry)))
-        × (r ≤ length (now (line .entry))) ⌝ }
-{
-    if line.len() <= held {
-        return line.len();
-    }
-    let room = line.len() - held;
-    if piece.len() < room {
-        octet_parts::copy(line, held, piece, 0, piece.len());
-        return held + piece.len();
-    }
-    octet_parts::copy(line, held, piece, 0, room);
-    held + room
 }

@@ -430,7 +430,7 @@ fn take_piece(
     requires { ⌜ streams .waiting ≤ length (now output) ⌝ }
     ensures { λ r. ⌜ Kept r (now (line .exit)) (now (output .exit)) ⌝ }
 {
-    let characters = lines::hold(line, progress.characters, piece);
+    let characters = line_buffer::hold(line, progress.characters, piece);
     let held = progress.held;
     let after = Progress {
         streams: streams,

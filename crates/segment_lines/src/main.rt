@@ -53,7 +53,7 @@ fn take_piece(
     requires { ⌜ streams .waiting ≤ length (now output) ⌝ }
     ensures { λ r. ⌜ Kept r (now (line .exit)) (now (output .exit)) ⌝ }
 {
-    let held = lines::hold(line, progress.held, piece);
+    let held = line_buffer::hold(line, progress.held, piece);
     let number = progress.number;
     let after = Progress {
         streams: streams,

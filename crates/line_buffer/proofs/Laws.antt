@@ -6,7 +6,7 @@ use native.Mathlib.Omega.{arith}
 use lib.ListN.{length}
 use borrow.Author.Tests.{le-leb, lt-leb}
 use Rattle.octets.specs.Parts.{copied}
-use Rattle.lines.specs.Streams.{fits, heldAfter, heldLine}
+use Rattle.line_buffer.specs.Buffer.{fits, heldAfter, heldLine}
 
 module _ (line : List ℕ) (held : ℕ) (piece : List ℕ) where
   pub hold-full : length line ≤ held → (length line ≡ heldAfter line held piece) × (line ≡ heldLine line held piece)

@@ -3,9 +3,9 @@ use lib.ListN.{length}
 use borrow.Author.Needs.{needs}
 use mathlib.Core.Path.{_∙_}
 use native.Mathlib.Omega.{arith}
-use Rattle.lines.proofs.Laws.{hold-full, hold-some}
-use Rattle.lines.proofs.hold.Statement.{statement}
-use Rattle.lines.proofs.hold.Tie as tie
+use Rattle.line_buffer.proofs.Laws.{hold-full, hold-some}
+use Rattle.line_buffer.proofs.hold.Statement.{statement}
+use Rattle.line_buffer.proofs.hold.Tie as tie
 
 returns : tie.Need-returns
 returns c =
