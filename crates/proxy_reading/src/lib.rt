@@ -1,83 +1,16 @@
 // Proxy transfer, reading: pieces put together again in a lent buffer.
 use octets::octet_at;
-use proxy::ConnectionAnswer;
-use proxy::ConnectionSet;
 use proxy::HalfTransfer;
 use proxy::PieceAnswer;
 use proxy::PieceRead;
 use proxy::PieceRefusal;
 use proxy::Transfer;
+use proxy_connection::is_good;
+use proxy_connection::new_transfer;
 ghost use mathlib.Core.Path.{_≡_};
-ghost use mathlib.Core.Bool.{true, false};
 ghost use Prim.Native.Nat.{_≤_};
 ghost use lib.ListN.{length};
-ghost use Rattle.proxy.specs.Transfers.{empty, isGood, setConnected, heldLength, isExpected, isLikeFirst, refusing, disconnecting, complete, added, joining, offered, pieceRead, isRefused, bufferAfter};
-
-fn with_nothing(connected: bool) -> Transfer
-    ensures { λ r. ⌜ r ≡ empty connected ⌝ }
-{
-    Transfer {
-        connected: connected,
-        half: HalfTransfer::Nothing,
-    }
-}
-
-// A transfer at start: disconnected.
-pub fn new_transfer() -> Transfer
-    ensures { λ r. ⌜ r ≡ empty false ⌝ }
-{
-    with_nothing(false)
-}
-
-fn is_good(transfer: Transfer) -> bool
-    ensures { λ r. ⌜ r ≡ isGood transfer ⌝ }
-{
-    let half = transfer.half;
-    match half {
-        HalfTransfer::Nothing => true,
-        HalfTransfer::Held { kind, length } => {
-            if transfer.connected {
-                if 3 < kind {
-                    return false;
-                }
-                if length < 1 {
-                    return false;
-                }
-                return length <= 1469;
-            }
-            false
-        }
-    }
-}
-
-fn set_connected(connected: bool, transfer: Transfer) -> ConnectionSet
-    ensures { λ r. ⌜ r ≡ setConnected connected transfer ⌝ }
-{
-    if is_good(transfer) {
-        return ConnectionSet {
-            transfer: with_nothing(connected),
-            answer: ConnectionAnswer::Done,
-        };
-    }
-    ConnectionSet {
-        transfer: transfer,
-        answer: ConnectionAnswer::BadState,
-    }
-}
-
-// Connects, with nothing half-received.
-pub fn connect(transfer: Transfer) -> ConnectionSet
-    ensures { λ r. ⌜ r ≡ setConnected true transfer ⌝ }
-{
-    set_connected(true, transfer)
-}
-
-// Disconnects, and drops what is half-received.
-pub fn disconnect(transfer: Transfer) -> ConnectionSet
-    ensures { λ r. ⌜ r ≡ setConnected false transfer ⌝ }
-{
-    set_connected(false, transfer)
-}
+ghost use Rattle.proxy.specs.Transfers.{heldLength, isExpected, isLikeFirst, refusing, disconnecting, complete, added, joining, offered, pieceRead, isRefused, bufferAfter};
 
 fn refuse(transfer: Transfer, refusal: PieceRefusal) -> PieceRead
     ensures { λ r. ⌜ r ≡ refusing transfer refusal ⌝ }
@@ -118,14 +51,17 @@ fn is_like_first(half: HalfTransfer, other: u8) -> bool
 fn disconnect_refused(refusal: PieceRefusal) -> PieceRead
     ensures { λ r. ⌜ r ≡ disconnecting refusal ⌝ }
 {
-    refuse(with_nothing(false), refusal)
+    refuse(new_transfer(), refusal)
 }
 
 fn finish(kind: u8, length: u16) -> PieceRead
     ensures { λ r. ⌜ r ≡ complete kind length ⌝ }
 {
     PieceRead {
-        transfer: with_nothing(true),
+        transfer: Transfer {
+            connected: true,
+            half: HalfTransfer::Nothing,
+        },
         answer: PieceAnswer::Whole {
             kind: kind,
             length: length,

@@ -58,7 +58,7 @@ fn at_start() -> Held {
         place: 0,
     };
     let links = local_calls::blank_links();
-    let transfer = proxy_reading::new_transfer();
+    let transfer = proxy_connection::new_transfer();
     let filter = Filter::new();
     Held {
         links: links,

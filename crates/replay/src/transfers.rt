@@ -147,11 +147,11 @@ fn perform_bare(operation: u8, transfer: Transfer, values: &mut [u8]) -> Transfe
             keep(transfer, shown)
         }
         b'C' => {
-            let connected = proxy_reading::connect(transfer);
+            let connected = proxy_connection::connect(transfer);
             after_connecting(connected)
         }
         b'X' => {
-            let connected = proxy_reading::disconnect(transfer);
+            let connected = proxy_connection::disconnect(transfer);
             after_connecting(connected)
         }
         _ => keep(transfer, Outcome::Malformed),

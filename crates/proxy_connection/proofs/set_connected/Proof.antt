@@ -1,7 +1,7 @@
 use Rattle.proxy.specs.Transfers.{setConnected}
 use borrow.Author.Needs.{needs}
-use Rattle.proxy_reading.proofs.set_connected.Statement.{statement}
-use Rattle.proxy_reading.proofs.set_connected.Tie as tie
+use Rattle.proxy_connection.proofs.set_connected.Statement.{statement}
+use Rattle.proxy_connection.proofs.set_connected.Tie as tie
 
 is-good-requires : tie.Need-is-good-requires
 is-good-requires c κs = search needs

@@ -1,8 +1,8 @@
 use borrow.Author.Tests.{le-leb, lt-leb}
 use Rattle.proxy.specs.Transfers.{isGood}
 use borrow.Author.Needs.{needs}
-use Rattle.proxy_reading.proofs.is_good.Statement.{statement}
-use Rattle.proxy_reading.proofs.is_good.Tie as tie
+use Rattle.proxy_connection.proofs.is_good.Statement.{statement}
+use Rattle.proxy_connection.proofs.is_good.Tie as tie
 
 enum-told : tie.Need-enum-told
 enum-told c = search needs
