@@ -1,8 +1,9 @@
 // Beacons, and the key and IV state.
-use crate::records;
-use crate::values::put8;
-use crate::values::put16;
-use crate::values::put32;
+use crate::answers::Answer;
+use crate::answers::done;
+use crate::answers::letter;
+use crate::answers::malformed;
+use crate::answers::refused;
 use beacon::BeaconAnswer;
 use beacon::Hash;
 use beacon::Heard;
@@ -14,71 +15,53 @@ use beacon::SecurityState;
 use beacon::Subnet;
 use octets::octet_at;
 use octets::read32;
-use script::Outcome;
 
-// The state after an operation, and what it came to.
+// The state after an operation, and its answer.
 pub(super) struct StateStep {
     pub state: SecurityState,
-    pub outcome: Outcome,
+    pub answer: Answer,
 }
 
-fn keep(state: SecurityState, outcome: Outcome) -> StateStep {
+fn keep(state: SecurityState, answer: Answer) -> StateStep {
     StateStep {
         state: state,
-        outcome: outcome,
+        answer: answer,
     }
 }
 
 fn set(state: SecurityState, x: &[u8]) -> StateStep {
-    if x.len() != 6 {
-        return keep(state, Outcome::Malformed);
+    if x.len() == 6 && octet_at(x, 5) <= 1 {
+        let iv = IvState {
+            index: read32(x, 1),
+            updating: octet_at(x, 5) == 1,
+        };
+        let after = SecurityState {
+            phase: octet_at(x, 0),
+            iv: iv,
+        };
+        return keep(after, done());
     }
-    if 1 < octet_at(x, 5) {
-        return keep(state, Outcome::Malformed);
-    }
-    let iv = IvState {
-        index: read32(x, 1),
-        updating: octet_at(x, 5) == 1,
-    };
-    let after = SecurityState {
-        phase: octet_at(x, 0),
-        iv: iv,
-    };
-    keep(after, Outcome::Done)
+    keep(state, malformed())
 }
 
-pub(super) fn show(state: SecurityState, values: &mut [u8]) -> Outcome {
+pub(super) fn show(state: SecurityState) -> Answer {
     let iv = state.iv;
-    put8(values, 0, state.phase);
-    put32(values, 1, iv.index);
-    put8(values, 5, records::flag_octet(iv.updating));
-    Outcome::Values {
-        letter: b'K',
-        count: 6,
-    }
+    letter(b'K')
+        .octet(state.phase)
+        .long(iv.index)
+        .flag(iv.updating)
 }
 
-fn put_hash(hash: Hash, beacon: &[u8], values: &mut [u8]) {
+fn put_hash(answer: Answer, beacon: &[u8], hash: Hash) -> Answer {
     match hash {
-        Hash::Nothing => {
-            put8(values, 18, 0);
-            put32(values, 19, 0);
-        }
-        Hash::At(place) => {
-            put8(values, 18, 1);
-            put32(values, 19, read32(beacon, place));
-        }
+        Hash::Nothing => answer.octet(0).long(0),
+        Hash::At(place) => answer.octet(1).long(read32(beacon, place)),
     }
 }
 
-fn unprovisioned(uuid: usize, oob: u16, hash: Hash, beacon: &[u8], values: &mut [u8]) -> Outcome {
-    octet_parts::copy(values, 0, beacon, uuid, 16);
-    put16(values, 16, oob);
-    put_hash(hash, beacon, values);
-    Outcome::Values {
-        letter: b'U',
-        count: 23,
-    }
+fn unprovisioned(uuid: usize, oob: u16, hash: Hash, beacon: &[u8]) -> Answer {
+    let named = letter(b'U').octets(beacon, uuid, 16);
+    put_hash(named.pair(oob), beacon, hash)
 }
 
 fn report_octet(report: IvReport) -> u8 {
@@ -89,41 +72,19 @@ fn report_octet(report: IvReport) -> u8 {
     }
 }
 
-fn secure(revoke: bool, iv: IvReport, values: &mut [u8]) -> Outcome {
-    put8(values, 0, records::flag_octet(revoke));
-    put8(values, 1, report_octet(iv));
-    Outcome::Values {
-        letter: b'B',
-        count: 2,
+fn answer_of(answered: BeaconAnswer, beacon: &[u8]) -> Answer {
+    match answered {
+        BeaconAnswer::Unprovisioned { uuid, oob, hash } => unprovisioned(uuid, oob, hash, beacon),
+        BeaconAnswer::Secure { revoke, iv } => letter(b'B').flag(revoke).octet(report_octet(iv)),
+        BeaconAnswer::Moved { revoke } => letter(b'K').flag(revoke),
+        BeaconAnswer::Refused(r) => refused(refusal_numbers::of_beacon(r)),
     }
 }
 
-fn moved(revoke: bool, values: &mut [u8]) -> Outcome {
-    put8(values, 0, records::flag_octet(revoke));
-    Outcome::Values {
-        letter: b'K',
-        count: 1,
-    }
-}
-
-fn after_hearing(heard: Heard, beacon: &[u8], values: &mut [u8]) -> StateStep {
+fn after_hearing(heard: Heard, beacon: &[u8]) -> StateStep {
     let state = heard.state;
-    let answer = heard.answer;
-    match answer {
-        BeaconAnswer::Unprovisioned { uuid, oob, hash } => {
-            let outcome = unprovisioned(uuid, oob, hash, beacon, values);
-            keep(state, outcome)
-        }
-        BeaconAnswer::Secure { revoke, iv } => {
-            let outcome = secure(revoke, iv, values);
-            keep(state, outcome)
-        }
-        BeaconAnswer::Moved { revoke } => {
-            let outcome = moved(revoke, values);
-            keep(state, outcome)
-        }
-        BeaconAnswer::Refused(r) => keep(state, Outcome::Refused(refusal_numbers::of_beacon(r))),
-    }
+    let answered = heard.answer;
+    keep(state, answer_of(answered, beacon))
 }
 
 fn key_of(flag: u8) -> Key {
@@ -140,66 +101,52 @@ fn subnet_of(flag: u8) -> Subnet {
     Subnet::Secondary
 }
 
-pub(super) fn hear(state: SecurityState, x: &[u8], values: &mut [u8]) -> StateStep {
-    if x.len() < 3 {
-        return keep(state, Outcome::Malformed);
-    }
-    if 1 < octet_at(x, 0) {
-        return keep(state, Outcome::Malformed);
-    }
-    if 1 < octet_at(x, 1) {
-        return keep(state, Outcome::Malformed);
-    }
-    if 1 < octet_at(x, 2) {
-        return keep(state, Outcome::Malformed);
-    }
-    let key = key_of(octet_at(x, 1));
-    let subnet = subnet_of(octet_at(x, 2));
-    let hearing = Hearing {
+fn hearing_of(x: &[u8]) -> Hearing {
+    Hearing {
         authentic: octet_at(x, 0) == 1,
-        key: key,
-        subnet: subnet,
-    };
-    let heard = beacon_hearing::hear_beacon(state, hearing, &x[3..]);
-    after_hearing(heard, &x[3..], values)
+        key: key_of(octet_at(x, 1)),
+        subnet: subnet_of(octet_at(x, 2)),
+    }
 }
 
-fn set_phase(state: SecurityState, x: &[u8], values: &mut [u8]) -> StateStep {
+// The first arguments are three flags.
+fn has_flags(x: &[u8]) -> bool {
+    octet_at(x, 0) <= 1 && octet_at(x, 1) <= 1 && octet_at(x, 2) <= 1
+}
+
+pub(super) fn hear(state: SecurityState, x: &[u8]) -> StateStep {
+    if 3 <= x.len() && has_flags(x) {
+        let heard = beacon_hearing::hear_beacon(state, hearing_of(x), &x[3..]);
+        return after_hearing(heard, &x[3..]);
+    }
+    keep(state, malformed())
+}
+
+fn set_phase(state: SecurityState, x: &[u8]) -> StateStep {
     if x.len() != 1 {
-        return keep(state, Outcome::Malformed);
+        return keep(state, malformed());
     }
     let heard = key_refresh::set_phase(state, octet_at(x, 0));
-    after_hearing(heard, b"", values)
+    after_hearing(heard, b"")
 }
 
-fn perform_bare(operation: u8, state: SecurityState, values: &mut [u8]) -> StateStep {
+fn perform_bare(operation: u8, state: SecurityState) -> StateStep {
     match operation {
-        b'D' => {
-            let shown = show(state, values);
-            keep(state, shown)
-        }
-        b'I' => {
-            let heard = key_refresh::start_key_refresh(state);
-            after_hearing(heard, b"", values)
-        }
-        _ => keep(state, Outcome::Malformed),
+        b'D' => keep(state, show(state)),
+        b'I' => after_hearing(key_refresh::start_key_refresh(state), b""),
+        _ => keep(state, malformed()),
     }
 }
 
-pub(super) fn perform(
-    operation: u8,
-    state: SecurityState,
-    x: &[u8],
-    values: &mut [u8],
-) -> StateStep {
-    if operation == b'S' {
-        return set(state, x);
+pub(super) fn perform(operation: u8, state: SecurityState, x: &[u8]) -> StateStep {
+    match operation {
+        b'S' => set(state, x),
+        b'T' => set_phase(state, x),
+        _ => {
+            if x.len() != 0 {
+                return keep(state, malformed());
+            }
+            perform_bare(operation, state)
+        }
     }
-    if operation == b'T' {
-        return set_phase(state, x, values);
-    }
-    if x.len() != 0 {
-        return keep(state, Outcome::Malformed);
-    }
-    perform_bare(operation, state, values)
 }

@@ -1,26 +1,29 @@
 // The proxy filter.
-use crate::values::put8;
-use crate::values::put16;
+use crate::answers::Answer;
+use crate::answers::done;
+use crate::answers::letter;
+use crate::answers::malformed;
+use crate::answers::refused;
 use filter_entries::Entry;
 use filter_messages::FilterAnswer;
 use filter_messages::FilterType;
 use octets::octet_at;
 use octets::read16;
+use octets::read32;
 use proxy_filter::Filter;
 use proxy_filter::FilterStep;
 use proxy_filter::PassAnswer;
-use script::Outcome;
 
-// The filter after an operation, and what it came to.
+// The filter after an operation, and its answer.
 pub(super) struct FilterOutcome {
     pub filter: Filter,
-    pub outcome: Outcome,
+    pub answer: Answer,
 }
 
-fn keep(filter: Filter, outcome: Outcome) -> FilterOutcome {
+fn keep(filter: Filter, answer: Answer) -> FilterOutcome {
     FilterOutcome {
         filter: filter,
-        outcome: outcome,
+        answer: answer,
     }
 }
 
@@ -44,29 +47,28 @@ fn type_of(octet: u8) -> FilterType {
 }
 
 fn set(filter: Filter, x: &[u8]) -> FilterOutcome {
-    if x.len() != 34 {
-        return keep(filter, Outcome::Malformed);
+    if x.len() == 34 && octet_at(x, 0) <= 1 {
+        let kind = type_of(octet_at(x, 0));
+        let entries = entries_of(x);
+        let after = Filter {
+            kind: kind,
+            count: octet_at(x, 1),
+            entries: entries,
+        };
+        return keep(after, done());
     }
-    if 1 < octet_at(x, 0) {
-        return keep(filter, Outcome::Malformed);
-    }
-    let entries = entries_of(x);
-    let kind = type_of(octet_at(x, 0));
-    let after = Filter {
-        kind: kind,
-        count: octet_at(x, 1),
-        entries: entries,
-    };
-    keep(after, Outcome::Done)
+    keep(filter, malformed())
 }
 
-fn put_entries(entries: [Entry; 16], values: &mut [u8]) {
+fn put_entries(before: Answer, entries: [Entry; 16]) -> Answer {
+    let mut after = before;
     let mut i = 0;
     while i < 16 {
         let entry = entries[i];
-        put16(values, 2 + 2 * i, entry.address);
+        after = after.pair(entry.address);
         i += 1;
     }
+    after
 }
 
 fn type_octet(kind: FilterType) -> u8 {
@@ -76,97 +78,67 @@ fn type_octet(kind: FilterType) -> u8 {
     }
 }
 
-pub(super) fn show(filter: Filter, values: &mut [u8]) -> Outcome {
+pub(super) fn show(filter: Filter) -> Answer {
     let kind = filter.kind;
     let entries = filter.entries;
-    put8(values, 0, type_octet(kind));
-    put8(values, 1, filter.count);
-    put_entries(entries, values);
-    Outcome::Values {
-        letter: b'F',
-        count: 34,
-    }
+    put_entries(
+        letter(b'F').octet(type_octet(kind)).octet(filter.count),
+        entries,
+    )
 }
 
-fn status(kind: FilterType, count: u8, values: &mut [u8]) -> Outcome {
+fn status(kind: FilterType, count: u8) -> Answer {
     let octets = filter_messages::status_octets(kind, count);
-    octet_parts::copy(values, 0, &octets, 0, 4);
-    Outcome::Values {
-        letter: b'F',
-        count: 4,
-    }
+    letter(b'F').long(read32(&octets, 0))
 }
 
-fn outcome_of(answer: FilterAnswer, values: &mut [u8]) -> Outcome {
-    match answer {
-        FilterAnswer::Status { kind, count } => status(kind, count, values),
-        FilterAnswer::Refused(r) => Outcome::Refused(refusal_numbers::of_filter(r)),
-    }
-}
-
-fn after_step(step: FilterStep, values: &mut [u8]) -> FilterOutcome {
+fn after_step(step: FilterStep) -> FilterOutcome {
     let filter = step.filter;
-    let answer = step.answer;
-    let outcome = outcome_of(answer, values);
-    keep(filter, outcome)
+    let answered = step.answer;
+    match answered {
+        FilterAnswer::Status { kind, count } => keep(filter, status(kind, count)),
+        FilterAnswer::Refused(r) => keep(filter, refused(refusal_numbers::of_filter(r))),
+    }
 }
 
-fn learn(filter: Filter, x: &[u8], values: &mut [u8]) -> FilterOutcome {
+fn learn(filter: Filter, x: &[u8]) -> FilterOutcome {
     if x.len() != 2 {
-        return keep(filter, Outcome::Malformed);
+        return keep(filter, malformed());
     }
-    let step = filter.learn(read16(x, 0));
-    after_step(step, values)
+    after_step(filter.learn(read16(x, 0)))
 }
 
-fn pass_outcome(passes: u8, values: &mut [u8]) -> Outcome {
-    put8(values, 0, passes);
-    Outcome::Values {
-        letter: b'P',
-        count: 1,
-    }
-}
-
-fn pass(filter: Filter, x: &[u8], values: &mut [u8]) -> Outcome {
+fn pass(filter: Filter, x: &[u8]) -> Answer {
     if x.len() != 2 {
-        return Outcome::Malformed;
+        return malformed();
     }
-    let answer = filter.pass(read16(x, 0));
-    match answer {
-        PassAnswer::Passes => pass_outcome(1, values),
-        PassAnswer::DoesNotPass => pass_outcome(0, values),
-        PassAnswer::BadState => Outcome::Refused(14),
+    let answered = filter.pass(read16(x, 0));
+    match answered {
+        PassAnswer::Passes => letter(b'P').octet(1),
+        PassAnswer::DoesNotPass => letter(b'P').octet(0),
+        PassAnswer::BadState => refused(14),
     }
 }
 
-fn perform_bare(operation: u8, filter: Filter, values: &mut [u8]) -> FilterOutcome {
+fn perform_bare(operation: u8, filter: Filter) -> FilterOutcome {
     match operation {
-        b'D' => {
-            let shown = show(filter, values);
-            keep(filter, shown)
-        }
-        b'N' => keep(Filter::new(), Outcome::Done),
-        _ => keep(filter, Outcome::Malformed),
+        b'D' => keep(filter, show(filter)),
+        b'N' => keep(Filter::new(), done()),
+        _ => keep(filter, malformed()),
     }
 }
 
-pub(super) fn perform(operation: u8, filter: Filter, x: &[u8], values: &mut [u8]) -> FilterOutcome {
-    if operation == b'S' {
-        return set(filter, x);
+pub(super) fn perform(operation: u8, filter: Filter, x: &[u8]) -> FilterOutcome {
+    match operation {
+        b'S' => set(filter, x),
+        b'M' => after_step(filter.control(x)),
+        b'L' => learn(filter, x),
+        b'P' => keep(filter, pass(filter, x)),
+        _ => {
+            if x.len() != 0 {
+                return keep(filter, malformed());
+            }
+            perform_bare(operation, filter)
+        }
     }
-    if operation == b'M' {
-        let step = filter.control(x);
-        return after_step(step, values);
-    }
-    if operation == b'L' {
-        return learn(filter, x, values);
-    }
-    if operation == b'P' {
-        let passed = pass(filter, x, values);
-        return keep(filter, passed);
-    }
-    if x.len() != 0 {
-        return keep(filter, Outcome::Malformed);
-    }
-    perform_bare(operation, filter, values)
 }

@@ -1,5 +1,6 @@
 // Replays a script: one operation a line in, one answer a line out (docs/REPLAY.md). It keeps the state and the storages between lines, makes
 // one call of the library for an operation, and writes what came back.
+mod answers;
 mod beacons;
 mod filters;
 mod messages;
@@ -7,9 +8,12 @@ mod records;
 mod station_calls;
 mod storages;
 mod transfers;
-mod values;
 mod writers;
 
+use answers::Answer;
+use answers::done;
+use answers::letter;
+use answers::malformed;
 use beacon::IvState;
 use beacon::SecurityState;
 use beacons::StateStep;
@@ -20,16 +24,15 @@ use messages::ViewStep;
 use messages::Viewed;
 use octets::Written;
 use octets::octet_at;
+use octets::read16;
 use proxy::Transfer;
 use proxy_filter::Filter;
 use records::Records;
 use script::Arguments;
-use script::Outcome;
+use storages::Part;
 use transfers::TransferStep;
-ghost use mathlib.Core.Path.{_≡_};
 ghost use Prim.Native.Nat.{_≤_};
 ghost use lib.ListN.{length};
-ghost use Rattle.replay.specs.Progress.{Kept};
 
 // The state that is kept between lines.
 struct Held {
@@ -40,10 +43,10 @@ struct Held {
     viewed: Viewed,
 }
 
-// The state after an operation, and what it came to.
+// The state after an operation, and its answer.
 struct Step {
     held: Held,
-    outcome: Outcome,
+    answer: Answer,
 }
 
 // Document 01's start: all free and blank, disconnected, a new filter, phase 0 and index 0.
@@ -69,57 +72,57 @@ fn at_start() -> Held {
     }
 }
 
-fn keep(held: Held, outcome: Outcome) -> Step {
+fn keep(held: Held, answer: Answer) -> Step {
     Step {
         held: held,
-        outcome: outcome,
+        answer: answer,
     }
 }
 
 fn with_links(held: Held, step: Records) -> Step {
     let mut after = held;
     let links = step.links;
-    let outcome = step.outcome;
+    let answer = step.answer;
     after.links = links;
-    keep(after, outcome)
+    keep(after, answer)
 }
 
 fn with_transfer(held: Held, step: TransferStep) -> Step {
     let mut after = held;
     let transfer = step.transfer;
-    let outcome = step.outcome;
+    let answer = step.answer;
     after.transfer = transfer;
-    keep(after, outcome)
+    keep(after, answer)
 }
 
 fn with_filter(held: Held, step: FilterOutcome) -> Step {
     let mut after = held;
     let filter = step.filter;
-    let outcome = step.outcome;
+    let answer = step.answer;
     after.filter = filter;
-    keep(after, outcome)
+    keep(after, answer)
 }
 
 fn with_security(held: Held, step: StateStep) -> Step {
     let mut after = held;
     let state = step.state;
-    let outcome = step.outcome;
+    let answer = step.answer;
     after.security = state;
-    keep(after, outcome)
+    keep(after, answer)
 }
 
 fn with_viewed(held: Held, step: ViewStep) -> Step {
     let mut after = held;
     let viewed = step.viewed;
-    let outcome = step.outcome;
+    let answer = step.answer;
     after.viewed = viewed;
-    keep(after, outcome)
+    keep(after, answer)
 }
 
 // The hash goes on over the characters of an answer, its newline left out.
-fn hash_answer(hash: u32, outcome: Outcome, values: &[u8]) -> u32 {
+fn hash_answer(hash: u32, answer: Answer) -> u32 {
     let mut text = [0u8; 512];
-    let Written::Count(n) = script::write_outcome(outcome, values, &mut text) else {
+    let Written::Count(n) = answer.write(b"", &mut text) else {
         return hash;
     };
     if n < 1 {
@@ -132,251 +135,208 @@ fn hash_answer(hash: u32, outcome: Outcome, values: &[u8]) -> u32 {
 }
 
 // The hash of the characters of what shows the state.
-fn hash_state(held: Held, values: &mut [u8]) -> u32 {
+fn hash_state(held: Held) -> u32 {
     let links = held.links;
     let transfer = held.transfer;
     let filter = held.filter;
     let security = held.security;
     let viewed = held.viewed;
-    let mut h = hash_answer(1, records::show_all(links, values), values);
-    h = hash_answer(h, transfers::show(transfer, values), values);
-    h = hash_answer(h, filters::show(filter, values), values);
-    h = hash_answer(h, beacons::show(security, values), values);
-    hash_answer(h, messages::show_view(viewed, values), values)
-}
-
-fn hash_all(held: Held, storages: &[u8], values: &mut [u8]) -> Outcome {
-    let state = hash_state(held, values);
-    if storages.len() < VIEW {
-        return Outcome::Malformed;
-    }
-    let h = script::hash(state, &storages[0..VIEW]);
-    values::put32(values, 0, h);
-    Outcome::Values {
-        letter: b'H',
-        count: 4,
-    }
+    let mut h = hash_answer(1, records::show_all(links));
+    h = hash_answer(h, transfers::show(transfer));
+    h = hash_answer(h, filters::show(filter));
+    h = hash_answer(h, beacons::show(security));
+    hash_answer(h, messages::show_view(viewed))
 }
 
 // Everything as at start, or the hash of everything.
-fn perform_whole(
-    held: Held,
-    operation: u8,
-    x: &[u8],
-    storages: &mut [u8],
-    values: &mut [u8],
-) -> Step {
+fn perform_whole(held: Held, second: u8, x: &[u8], storages: &mut [u8]) -> Step {
     if x.len() != 0 {
-        return keep(held, Outcome::Malformed);
+        return keep(held, malformed());
     }
-    if operation == b'H' {
-        let hashed = hash_all(held, storages, values);
-        return keep(held, hashed);
+    match second {
+        b'Z' => {
+            storages::fill_storage(storages, 0);
+            keep(at_start(), done())
+        }
+        b'H' => keep(
+            held,
+            letter(b'H').long(script::hash(hash_state(held), storages)),
+        ),
+        _ => keep(held, malformed()),
     }
-    if operation == b'Z' {
-        storages::fill_storage(storages, 0);
-        return keep(at_start(), Outcome::Done);
-    }
-    keep(held, Outcome::Malformed)
 }
 
-// What an operation works on.
-enum Part {
-    // Storage A, lent to the station.
-    Area,
-    // Storage B and the proxy transfer.
-    Buffer,
-    // Storage O, lent to the writers.
+// What an operation is about.
+enum Subject {
+    // A storage: fill, write, show and hash.
+    Storage,
+    // Receiving a frame, with octets of storage A lent.
+    Frame,
+    // Reading a proxy piece, with octets of storage B lent.
+    Piece,
+    // Writing a frame or a proxy piece, with octets of storage O lent.
     Output,
     View,
+    // All that is kept.
+    Whole,
     Links,
+    // The local calls of the station.
+    Station,
+    Transfer,
     Filter,
     Security,
     // Nothing that is kept: the check octet, SegN, a provisioning message.
     Leaf,
-    Whole,
     Nothing,
 }
 
-fn if_second(second: u8, letter: u8, part: Part, other: Part) -> Part {
-    if second == letter { part } else { other }
+fn if_second(second: u8, letter: u8, subject: Subject, other: Subject) -> Subject {
+    if second == letter { subject } else { other }
 }
 
-fn part_of(first: u8, second: u8) -> Part {
+fn subject_of(first: u8, second: u8) -> Subject {
     match first {
-        b'A' => Part::Area,
-        b'B' => if_second(second, b'R', Part::Security, Part::Buffer),
-        b'C' => if_second(second, b'K', Part::Leaf, Part::Links),
-        b'F' => Part::Filter,
-        b'K' => Part::Security,
-        b'L' => Part::Links,
-        b'O' => if_second(second, b'P', Part::Links, Part::Output),
-        b'P' => Part::Leaf,
-        b'R' => Part::Area,
-        b'S' => if_second(second, b'G', Part::Leaf, Part::Links),
-        b'V' => Part::View,
-        b'W' => Part::Output,
-        b'X' => if_second(second, b'W', Part::Output, Part::Buffer),
-        b'Z' => Part::Whole,
-        _ => Part::Nothing,
+        b'A' => Subject::Storage,
+        b'B' => if_second(second, b'R', Subject::Security, Subject::Storage),
+        b'C' => if_second(
+            second,
+            b'K',
+            Subject::Leaf,
+            if_second(second, b'L', Subject::Station, Subject::Nothing),
+        ),
+        b'F' => Subject::Filter,
+        b'K' => Subject::Security,
+        b'L' => Subject::Links,
+        b'O' => if_second(second, b'P', Subject::Station, Subject::Storage),
+        b'P' => if_second(second, b'R', Subject::Leaf, Subject::Nothing),
+        b'R' => if_second(second, b'F', Subject::Frame, Subject::Nothing),
+        b'S' => if_second(
+            second,
+            b'G',
+            Subject::Leaf,
+            if_second(second, b'N', Subject::Station, Subject::Nothing),
+        ),
+        b'V' => Subject::View,
+        b'W' => Subject::Output,
+        b'X' => if_second(
+            second,
+            b'W',
+            Subject::Output,
+            if_second(second, b'R', Subject::Piece, Subject::Transfer),
+        ),
+        b'Z' => Subject::Whole,
+        _ => Subject::Nothing,
     }
 }
 
-fn perform_area(
-    held: Held,
-    first: u8,
-    second: u8,
-    x: &[u8],
-    a: &mut [u8],
-    values: &mut [u8],
-) -> Step {
-    if first == b'A' {
-        let outcome = storages::perform(second, x, a, values);
-        return keep(held, outcome);
+// The octets of the storages that an operation is given; what is lent is its first argument.
+fn part_of(subject: Subject, first: u8, lent: u16) -> Part {
+    match subject {
+        Subject::Frame => storages::lend(b'A', lent),
+        Subject::Piece => storages::lend(b'B', lent),
+        Subject::Output => storages::lend(b'O', lent),
+        _ => storages::storage_of(first),
     }
-    let links = held.links;
-    let step = station_calls::receive(second, links, x, a, values);
-    with_links(held, step)
 }
 
-fn perform_buffer(
-    held: Held,
-    first: u8,
-    second: u8,
-    x: &[u8],
-    b: &mut [u8],
-    values: &mut [u8],
-) -> Step {
-    if first == b'B' {
-        let outcome = storages::perform(second, x, b, values);
-        return keep(held, outcome);
+fn perform_leaf(first: u8, x: &[u8]) -> Answer {
+    match first {
+        b'C' => writers::check_octet(x),
+        b'S' => writers::last_segment(x),
+        _ => messages::read(x),
     }
-    let transfer = held.transfer;
-    let step = transfers::perform(second, transfer, x, b, values);
-    with_transfer(held, step)
 }
 
-fn perform_output(first: u8, second: u8, x: &[u8], o: &mut [u8], values: &mut [u8]) -> Outcome {
-    if first == b'O' {
-        return storages::perform(second, x, o, values);
-    }
-    if first == b'X' {
-        return writers::perform_piece(x, o, values);
-    }
-    writers::perform(second, x, o, values)
-}
-
-fn perform_view(held: Held, second: u8, x: &[u8], octets: &mut [u8], values: &mut [u8]) -> Step {
-    let viewed = held.viewed;
-    let step = messages::perform(second, viewed, x, octets, values);
-    with_viewed(held, step)
-}
-
-fn perform_links(held: Held, first: u8, second: u8, x: &[u8], values: &mut [u8]) -> Step {
-    let links = held.links;
-    if first == b'L' {
-        let step = records::perform(second, links, x, values);
-        return with_links(held, step);
-    }
-    let step = station_calls::perform(first, second, links, x, values);
-    with_links(held, step)
-}
-
-fn perform_security(held: Held, first: u8, second: u8, x: &[u8], values: &mut [u8]) -> Step {
+fn perform_security(held: Held, first: u8, second: u8, x: &[u8]) -> Step {
     let security = held.security;
     if first == b'B' {
-        let step = beacons::hear(security, x, values);
-        return with_security(held, step);
+        return with_security(held, beacons::hear(security, x));
     }
-    let step = beacons::perform(second, security, x, values);
-    with_security(held, step)
-}
-
-fn perform_leaf(first: u8, second: u8, x: &[u8], values: &mut [u8]) -> Outcome {
-    if first == b'C' {
-        return writers::check_octet(x, values);
-    }
-    if first == b'S' {
-        return writers::last_segment(x, values);
-    }
-    if second == b'R' {
-        return messages::read(x, values);
-    }
-    Outcome::Malformed
+    with_security(held, beacons::perform(second, security, x))
 }
 
 // The operations that use no storage.
-fn perform_bare(
-    held: Held,
-    part: Part,
-    first: u8,
-    second: u8,
-    x: &[u8],
-    values: &mut [u8],
-) -> Step {
-    match part {
-        Part::Links => perform_links(held, first, second, x, values),
-        Part::Filter => {
+fn perform_bare(held: Held, subject: Subject, first: u8, second: u8, x: &[u8]) -> Step {
+    match subject {
+        Subject::Links => {
+            let links = held.links;
+            with_links(held, records::perform(second, links, x))
+        }
+        Subject::Station => {
+            let links = held.links;
+            with_links(held, station_calls::perform(second, links, x))
+        }
+        Subject::Transfer => {
+            let transfer = held.transfer;
+            with_transfer(held, transfers::perform(second, transfer, x))
+        }
+        Subject::Filter => {
             let filter = held.filter;
-            let step = filters::perform(second, filter, x, values);
-            with_filter(held, step)
+            with_filter(held, filters::perform(second, filter, x))
         }
-        Part::Security => perform_security(held, first, second, x, values),
-        Part::Leaf => {
-            let outcome = perform_leaf(first, second, x, values);
-            keep(held, outcome)
-        }
-        _ => keep(held, Outcome::Malformed),
+        Subject::Security => perform_security(held, first, second, x),
+        Subject::Leaf => keep(held, perform_leaf(first, x)),
+        _ => keep(held, malformed()),
     }
 }
 
-// The storages stand one behind the other: A from 0, and where the others begin.
-const B: usize = 11776;
-
-const O: usize = 13312;
-
-const VIEW: usize = 17408;
-
-const END: usize = 18944;
-
-// An operation by its two letters.
-fn perform(
+// An operation with its octets of the storages.
+fn perform_with(
     held: Held,
+    subject: Subject,
     first: u8,
     second: u8,
     x: &[u8],
-    storages: &mut [u8],
-    values: &mut [u8],
+    part: &mut [u8],
 ) -> Step {
-    if storages.len() < END {
-        return keep(held, Outcome::Malformed);
-    }
-    let part = part_of(first, second);
-    match part {
-        Part::Area => perform_area(held, first, second, x, &mut storages[0..B], values),
-        Part::Buffer => perform_buffer(held, first, second, x, &mut storages[B..O], values),
-        Part::Output => {
-            let outcome = perform_output(first, second, x, &mut storages[O..VIEW], values);
-            keep(held, outcome)
+    match subject {
+        Subject::Storage => keep(held, storages::perform(first, second, x, part)),
+        Subject::Frame => {
+            let links = held.links;
+            with_links(held, station_calls::receive(links, x, part))
         }
-        Part::View => perform_view(held, second, x, &mut storages[VIEW..END], values),
-        Part::Whole => perform_whole(held, second, x, storages, values),
-        _ => perform_bare(held, part, first, second, x, values),
+        Subject::Piece => {
+            let transfer = held.transfer;
+            with_transfer(held, transfers::read(transfer, x, part))
+        }
+        Subject::Output => keep(held, writers::perform(first, second, x, part)),
+        Subject::View => {
+            let viewed = held.viewed;
+            with_viewed(held, messages::perform(second, viewed, x, part))
+        }
+        Subject::Whole => perform_whole(held, second, x, part),
+        _ => perform_bare(held, subject, first, second, x),
     }
+}
+
+// An operation by its two letters.
+fn perform(held: Held, first: u8, second: u8, x: &[u8], storages: &mut [u8]) -> Step {
+    let subject = subject_of(first, second);
+    let part = part_of(subject, first, read16(x, 0));
+    let from = part.from as usize;
+    let to = from + (part.count as usize);
+    if storages.len() < to {
+        return keep(held, malformed());
+    }
+    perform_with(held, subject, first, second, x, &mut storages[from..to])
 }
 
 // One line: its arguments are read, its operation performed.
-fn perform_line(held: Held, line: &[u8], storages: &mut [u8], values: &mut [u8]) -> Step {
+fn perform_line(held: Held, line: &[u8], storages: &mut [u8]) -> Step {
     let mut x = [0u8; 4096];
     let Arguments::Octets(n) = script::read_arguments(line, &mut x) else {
-        return keep(held, Outcome::Malformed);
+        return keep(held, malformed());
     };
     if 4096 < n {
-        return keep(held, Outcome::Malformed);
+        return keep(held, malformed());
     }
-    let first = octet_at(line, 0);
-    let second = octet_at(line, 1);
-    perform(held, first, second, &x[0..n], storages, values)
+    perform(
+        held,
+        octet_at(line, 0),
+        octet_at(line, 1),
+        &x[0..n],
+        storages,
+    )
 }
 
 // How far the program has come.
@@ -387,82 +347,7 @@ struct Progress {
     held: Held,
 }
 
-// Ends the line: its answer waits in the output.
-fn end_line(progress: Progress, line: &[u8], storages: &mut [u8], output: &mut [u8]) -> Progress
-    requires { ⌜ progress .characters ≤ length (now line) ⌝ }
-    ensures { λ r. ⌜ Kept r (now (line .entry)) (now (output .exit)) ⌝ }
-{
-    let mut values = [0u8; 4096];
-    let characters = progress.characters;
-    let held = progress.held;
-    let before = progress.streams;
-    // The longest answer has a letter, 4,096 octets and a newline.
-    let streams = lines::make_room(before, output, 8194);
-    let waiting = streams.waiting;
-    let step = perform_line(held, &line[0..characters], storages, &mut values);
-    let after = step.held;
-    let outcome = step.outcome;
-    let Written::Count(n) = script::write_outcome(outcome, &values, &mut output[waiting..]) else {
-        // Never: the room is enough for any answer.
-        return Progress {
-            streams: streams,
-            characters: 0,
-            held: after,
-        };
-    };
-    let wrote = lines::add_waiting(streams, output, n);
-    Progress {
-        streams: wrote,
-        characters: 0,
-        held: after,
-    }
-}
-
-// A piece of the input comes. A line that fills its buffer is longer than any operation.
-fn take_piece(
-    progress: Progress,
-    streams: Streams,
-    piece: &[u8],
-    line: &mut [u8],
-    storages: &mut [u8],
-    output: &mut [u8],
-) -> Progress
-    requires { ⌜ streams .waiting ≤ length (now output) ⌝ }
-    ensures { λ r. ⌜ Kept r (now (line .exit)) (now (output .exit)) ⌝ }
-{
-    let characters = line_buffer::hold(line, progress.characters, piece);
-    let held = progress.held;
-    let after = Progress {
-        streams: streams,
-        characters: characters,
-        held: held,
-    };
-    if streams.ends {
-        return end_line(after, line, storages, output);
-    }
-    after
-}
-
-// Reads on as far as a line's end, or the end of what is there, and takes what was read.
-fn take_turn(
-    progress: Progress,
-    input: &mut [u8],
-    line: &mut [u8],
-    storages: &mut [u8],
-    output: &mut [u8],
-) -> Progress
-    ensures { λ r. ⌜ Kept r (now (line .exit)) (now (output .exit)) ⌝ }
-{
-    let before = progress.streams;
-    let next = lines::next_piece(before, input, output);
-    let from = next.from;
-    let to = next.to;
-    take_piece(progress, next, &input[from..to], line, storages, output)
-}
-
-fn begin() -> Progress
-    ensures { λ r. ⌜ (r .characters ≡ 0) × (r .streams .waiting ≡ 0) ⌝ }
-{
+fn begin() -> Progress {
     let streams = lines::start();
     let held = at_start();
     Progress {
@@ -470,6 +355,78 @@ fn begin() -> Progress
         characters: 0,
         held: held,
     }
+}
+
+// Reads on as far as a line's end, or the end of what is there. A line that fills its buffer is longer than any operation.
+fn read_on(progress: Progress, input: &mut [u8], line: &mut [u8], output: &[u8]) -> Progress
+    ensures { λ r. ⌜ r .characters ≤ length (now (line .exit)) ⌝ }
+{
+    let before = progress.streams;
+    let held = progress.held;
+    let streams = lines::next_piece(before, input, output);
+    let from = streams.from;
+    let to = streams.to;
+    let characters = line_buffer::hold(line, progress.characters, &input[from..to]);
+    Progress {
+        streams: streams,
+        characters: characters,
+        held: held,
+    }
+}
+
+// Writes an answer behind the text that waits.
+fn write_answer(before: Streams, answer: Answer, storages: &[u8], output: &mut [u8]) -> Streams {
+    // The longest answer has a letter, 4,096 octets and a newline.
+    let streams = lines::make_room(before, output, 8194);
+    let waiting = streams.waiting;
+    let Written::Count(n) = answer.write(storages, &mut output[waiting..]) else {
+        // Never: the room is enough for any answer.
+        return streams;
+    };
+    lines::add_waiting(streams, output, n)
+}
+
+// Whether the line is whole: a newline ends it, and the end of input a line that has characters.
+fn is_whole(streams: Streams, characters: usize) -> bool {
+    if streams.ends {
+        return true;
+    }
+    if streams.found {
+        return false;
+    }
+    0 < characters
+}
+
+// Answers the line if it is whole.
+fn answer_line(progress: Progress, line: &[u8], storages: &mut [u8], output: &mut [u8]) -> Progress
+    requires { ⌜ progress .characters ≤ length (now line) ⌝ }
+{
+    let before = progress.streams;
+    let held = progress.held;
+    let characters = progress.characters;
+    if is_whole(before, characters) {
+        let step = perform_line(held, &line[0..characters], storages);
+        let after = step.held;
+        let answer = step.answer;
+        let streams = write_answer(before, answer, storages, output);
+        return Progress {
+            streams: streams,
+            characters: 0,
+            held: after,
+        };
+    }
+    progress
+}
+
+fn take_turn(
+    progress: Progress,
+    input: &mut [u8],
+    line: &mut [u8],
+    storages: &mut [u8],
+    output: &mut [u8],
+) -> Progress {
+    let read = read_on(progress, input, line, output);
+    answer_line(read, line, storages, output)
 }
 
 fn run(input: &mut [u8], line: &mut [u8], storages: &mut [u8], output: &mut [u8]) {
@@ -485,18 +442,8 @@ fn run(input: &mut [u8], line: &mut [u8], storages: &mut [u8], output: &mut [u8]
             turns = 0;
         }
     }
-    finish(progress, line, storages, output);
-}
-
-// The end of input ends a line that has characters.
-fn finish(progress: Progress, line: &[u8], storages: &mut [u8], output: &mut [u8])
-    requires { ⌜ Kept progress (now line) (now output) ⌝ }
-{
-    if 0 < progress.characters {
-        let last = end_line(progress, line, storages, output);
-        let streams = last.streams;
-        lines::flush(streams, output);
-    }
+    let streams = progress.streams;
+    lines::flush(streams, output);
 }
 
 fn main() {

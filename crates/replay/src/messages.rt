@@ -1,92 +1,68 @@
 // Provisioning messages read whole, and the view over a message.
-use crate::values::put8;
-use crate::values::put16;
+use crate::answers::Answer;
+use crate::answers::done;
+use crate::answers::letter;
+use crate::answers::malformed;
+use crate::answers::refused;
 use message_view::FieldRead;
-use message_view::Step;
 use message_view::Wanted;
+use octets::octet_at;
 use octets::read16;
 use provisioning::Capabilities;
 use provisioning::Choice;
 use provisioning::Field;
 use provisioning::Message;
-use script::Outcome;
 
-fn outcome(count: usize) -> Outcome {
-    Outcome::Values {
-        letter: b'M',
-        count: count,
-    }
+fn put_capabilities(before: Answer, c: Capabilities) -> Answer {
+    let mut after = before.octet(c.elements);
+    after = after.pair(c.algorithms);
+    after = after.octet(c.public_key_type);
+    after = after.octet(c.static_oob_type);
+    after = after.octet(c.output_oob_size);
+    after = after.pair(c.output_oob_action);
+    after = after.octet(c.input_oob_size);
+    after.pair(c.input_oob_action)
 }
 
-// A message with no field, or with one of an octet.
-fn short(kind: u8, octet: u8, count: usize, values: &mut [u8]) -> Outcome {
-    put8(values, 0, kind);
-    put8(values, 1, octet);
-    outcome(count)
+fn put_choice(before: Answer, c: Choice) -> Answer {
+    let mut after = before.octet(c.algorithm);
+    after = after.octet(c.public_key);
+    after = after.octet(c.method);
+    after = after.octet(c.action);
+    after.octet(c.size)
 }
 
-fn put_output_and_input(c: Capabilities, values: &mut [u8]) {
-    put8(values, 6, c.output_oob_size);
-    put16(values, 7, c.output_oob_action);
-    put8(values, 9, c.input_oob_size);
-    put16(values, 10, c.input_oob_action);
+// A long field's place and length.
+fn put_field(before: Answer, field: Field) -> Answer {
+    before
+        .pair((field.place % 65536) as u16)
+        .pair((field.length % 65536) as u16)
 }
 
-fn capabilities(c: Capabilities, values: &mut [u8]) -> Outcome {
-    put8(values, 0, 1);
-    put8(values, 1, c.elements);
-    put16(values, 2, c.algorithms);
-    put8(values, 4, c.public_key_type);
-    put8(values, 5, c.static_oob_type);
-    put_output_and_input(c, values);
-    outcome(12)
+fn put_fields(before: Answer, first: Field, second: Field) -> Answer {
+    put_field(put_field(before, first), second)
 }
 
-fn choice(c: Choice, values: &mut [u8]) -> Outcome {
-    put8(values, 0, 2);
-    put8(values, 1, c.algorithm);
-    put8(values, 2, c.public_key);
-    put8(values, 3, c.method);
-    put8(values, 4, c.action);
-    put8(values, 5, c.size);
-    outcome(6)
-}
-
-// A field's place and length, at a place of the values.
-fn put_field(field: Field, values: &mut [u8], at: u8) {
-    let from = at as usize;
-    put16(values, from, (field.place % 65536) as u16);
-    put16(values, from + 2, (field.length % 65536) as u16);
-}
-
-fn one_field(kind: u8, field: Field, values: &mut [u8]) -> Outcome {
-    put8(values, 0, kind);
-    put_field(field, values, 1);
-    outcome(5)
-}
-
-fn two_fields(kind: u8, first: Field, second: Field, values: &mut [u8]) -> Outcome {
-    put8(values, 0, kind);
-    put_field(first, values, 1);
-    put_field(second, values, 5);
-    outcome(9)
-}
-
-pub(super) fn read(x: &[u8], values: &mut [u8]) -> Outcome {
-    let message = provisioning::read_message(x);
+// The fields of a message, behind its type.
+fn put_message(before: Answer, message: Message) -> Answer {
     match message {
-        Message::Invite { attention } => short(0, attention, 2, values),
-        Message::Capabilities(c) => capabilities(c, values),
-        Message::Start(c) => choice(c, values),
-        Message::PublicKey { x, y } => two_fields(3, x, y, values),
-        Message::InputComplete => short(4, 0, 1, values),
-        Message::Confirmation { confirmation } => one_field(5, confirmation, values),
-        Message::Random { random } => one_field(6, random, values),
-        Message::Data { encrypted, mic } => two_fields(7, encrypted, mic, values),
-        Message::Complete => short(8, 0, 1, values),
-        Message::Failed { code } => short(9, code, 2, values),
-        Message::Refused(r) => Outcome::Refused(refusal_numbers::of_message(r)),
+        Message::Invite { attention } => before.octet(attention),
+        Message::Capabilities(c) => put_capabilities(before, c),
+        Message::Start(c) => put_choice(before, c),
+        Message::PublicKey { x, y } => put_fields(before, x, y),
+        Message::InputComplete => before,
+        Message::Confirmation { confirmation } => put_field(before, confirmation),
+        Message::Random { random } => put_field(before, random),
+        Message::Data { encrypted, mic } => put_fields(before, encrypted, mic),
+        Message::Complete => before,
+        Message::Failed { code } => before.octet(code),
+        Message::Refused(r) => refused(refusal_numbers::of_message(r)),
     }
+}
+
+pub(super) fn read(x: &[u8]) -> Answer {
+    let message = provisioning::read_message(x);
+    put_message(letter(b'M').octet(octet_at(x, 0)), message)
 }
 
 // The view: how many octets it is over, which stand at the start of its storage, and the place reached.
@@ -95,124 +71,87 @@ pub(super) struct Viewed {
     pub place: usize,
 }
 
-// The view after an operation, and what it came to.
+// The view after an operation, and its answer.
 pub(super) struct ViewStep {
     pub viewed: Viewed,
-    pub outcome: Outcome,
+    pub answer: Answer,
 }
 
-fn keep(viewed: Viewed, outcome: Outcome) -> ViewStep {
+fn keep(viewed: Viewed, answer: Answer) -> ViewStep {
     ViewStep {
         viewed: viewed,
-        outcome: outcome,
+        answer: answer,
     }
 }
 
 fn set_view(viewed: Viewed, x: &[u8], octets: &mut [u8]) -> ViewStep {
     if x.len() < 2 {
-        return keep(viewed, Outcome::Malformed);
+        return keep(viewed, malformed());
     }
     let length = x.len() - 2;
-    if 0x0600 < length {
-        return keep(viewed, Outcome::Malformed);
+    if octet_parts::copy(octets, 0, x, 2, length) {
+        let after = Viewed {
+            length: length,
+            place: read16(x, 0) as usize,
+        };
+        return keep(after, done());
     }
-    octet_parts::copy(octets, 0, x, 2, length);
-    let after = Viewed {
-        length: length,
-        place: read16(x, 0) as usize,
-    };
-    keep(after, Outcome::Done)
+    keep(viewed, malformed())
 }
 
-pub(super) fn show_view(viewed: Viewed, values: &mut [u8]) -> Outcome {
-    put16(values, 0, (viewed.place % 65536) as u16);
-    Outcome::Values {
-        letter: b'V',
-        count: 2,
-    }
+pub(super) fn show_view(viewed: Viewed) -> Answer {
+    letter(b'V').pair((viewed.place % 65536) as u16)
 }
 
-fn number_outcome(count: usize) -> Outcome {
-    Outcome::Values {
-        letter: b'N',
-        count: count,
-    }
-}
-
-fn field_outcome(field: FieldRead, values: &mut [u8]) -> Outcome {
+fn field_answer(field: FieldRead) -> Answer {
     match field {
-        FieldRead::Octet(n) => {
-            put8(values, 0, n);
-            number_outcome(1)
-        }
-        FieldRead::Pair(n) => {
-            put16(values, 0, n);
-            number_outcome(2)
-        }
-        FieldRead::Long(f) => {
-            put_field(f, values, 0);
-            Outcome::Values {
-                letter: b'P',
-                count: 4,
-            }
-        }
-        FieldRead::PastEnd => Outcome::Refused(44),
+        FieldRead::Octet(n) => letter(b'N').octet(n),
+        FieldRead::Pair(n) => letter(b'N').pair(n),
+        FieldRead::Long(f) => put_field(letter(b'P'), f),
+        FieldRead::PastEnd => refused(44),
     }
 }
 
-fn take(viewed: Viewed, octets: &[u8], wanted: Wanted, values: &mut [u8]) -> ViewStep {
+fn take(viewed: Viewed, octets: &[u8], wanted: Wanted) -> ViewStep {
     let length = viewed.length;
     if octets.len() < length {
-        return keep(viewed, Outcome::Malformed);
+        return keep(viewed, malformed());
     }
     let step = message_view::read_field(&octets[0..length], viewed.place, wanted);
     let field = step.field;
-    let found = field_outcome(field, values);
     let after = Viewed {
         length: length,
         place: step.next,
     };
-    keep(after, found)
+    keep(after, field_answer(field))
 }
 
-fn take_long(viewed: Viewed, x: &[u8], octets: &[u8], values: &mut [u8]) -> ViewStep {
-    if x.len() != 2 {
-        return keep(viewed, Outcome::Malformed);
-    }
+fn take_long(viewed: Viewed, x: &[u8], octets: &[u8]) -> ViewStep {
     let count = read16(x, 0) as usize;
-    if count == 0 {
-        return keep(viewed, Outcome::Malformed);
+    if x.len() == 2 && 0 < count {
+        return take(viewed, octets, Wanted::Long(count));
     }
-    take(viewed, octets, Wanted::Long(count), values)
+    keep(viewed, malformed())
 }
 
-fn perform_bare(operation: u8, viewed: Viewed, octets: &[u8], values: &mut [u8]) -> ViewStep {
+fn perform_bare(operation: u8, viewed: Viewed, octets: &[u8]) -> ViewStep {
     match operation {
-        b'D' => {
-            let shown = show_view(viewed, values);
-            keep(viewed, shown)
-        }
-        b'B' => take(viewed, octets, Wanted::Octet, values),
-        b'W' => take(viewed, octets, Wanted::Pair, values),
-        _ => keep(viewed, Outcome::Malformed),
+        b'D' => keep(viewed, show_view(viewed)),
+        b'B' => take(viewed, octets, Wanted::Octet),
+        b'W' => take(viewed, octets, Wanted::Pair),
+        _ => keep(viewed, malformed()),
     }
 }
 
-pub(super) fn perform(
-    operation: u8,
-    viewed: Viewed,
-    x: &[u8],
-    octets: &mut [u8],
-    values: &mut [u8],
-) -> ViewStep {
+pub(super) fn perform(operation: u8, viewed: Viewed, x: &[u8], octets: &mut [u8]) -> ViewStep {
     if operation == b'S' {
         return set_view(viewed, x, octets);
     }
     if operation == b'F' {
-        return take_long(viewed, x, octets, values);
+        return take_long(viewed, x, octets);
     }
     if x.len() != 0 {
-        return keep(viewed, Outcome::Malformed);
+        return keep(viewed, malformed());
     }
-    perform_bare(operation, viewed, octets, values)
+    perform_bare(operation, viewed, octets)
 }

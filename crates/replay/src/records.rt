@@ -1,8 +1,9 @@
 // The operations that set and show the link records. A record is 22 octets: its use, Link ID, next sending number, whether it is outstanding,
 // the last delivered number, and the half-received message with its marks.
-use crate::values::put8;
-use crate::values::put16;
-use crate::values::put32;
+use crate::answers::Answer;
+use crate::answers::done;
+use crate::answers::letter;
+use crate::answers::malformed;
 use links::HalfMessage;
 use links::HalfReceived;
 use links::LastDelivered;
@@ -11,19 +12,18 @@ use links::LinkState;
 use octets::octet_at;
 use octets::read16;
 use octets::read32;
-use script::Outcome;
 use transactions::TransactionNumber;
 
-// The records after an operation, and what it came to.
+// The records after an operation, and its answer.
 pub(super) struct Records {
     pub links: [Link; 8],
-    pub outcome: Outcome,
+    pub answer: Answer,
 }
 
-fn keep(links: [Link; 8], outcome: Outcome) -> Records {
+pub(super) fn keep(links: [Link; 8], answer: Answer) -> Records {
     Records {
         links: links,
-        outcome: outcome,
+        answer: answer,
     }
 }
 
@@ -42,10 +42,6 @@ fn last_of(x: &[u8]) -> LastDelivered {
     LastDelivered::Number(TransactionNumber(octet_at(x, 9)))
 }
 
-fn marks_of(high: u32, low: u32) -> u64 {
-    (high as u64) * 4294967296 + (low as u64)
-}
-
 fn half_of(x: &[u8]) -> HalfReceived {
     if octet_at(x, 10) == 0 {
         return HalfReceived::Nothing;
@@ -54,7 +50,7 @@ fn half_of(x: &[u8]) -> HalfReceived {
         number: TransactionNumber(octet_at(x, 11)),
         length: read16(x, 12),
         check: octet_at(x, 14),
-        marks: marks_of(read32(x, 15), read32(x, 19)),
+        marks: (read32(x, 15) as u64) * 4294967296 + (read32(x, 19) as u64),
     })
 }
 
@@ -84,24 +80,25 @@ fn is_record(x: &[u8]) -> bool {
     octet_at(x, 10) <= 1
 }
 
-fn set(links: [Link; 8], x: &[u8]) -> Records {
-    if x.len() != 23 {
-        return keep(links, Outcome::Malformed);
-    }
-    let socket = octet_at(x, 0);
+// The place of a socket's record; 8 where there is no such socket.
+fn place_of(socket: u8) -> usize {
     if socket < 1 {
-        return keep(links, Outcome::Malformed);
+        return 8;
     }
     if 8 < socket {
-        return keep(links, Outcome::Malformed);
+        return 8;
     }
-    if is_record(x) {
-        let place = (socket - 1) as usize;
+    (socket - 1) as usize
+}
+
+fn set(links: [Link; 8], x: &[u8]) -> Records {
+    let place = place_of(octet_at(x, 0));
+    if x.len() == 23 && place < 8 && is_record(x) {
         let mut after = links;
         after[place] = link_of(x);
-        return keep(after, Outcome::Done);
+        return keep(after, done());
     }
-    keep(links, Outcome::Malformed)
+    keep(links, malformed())
 }
 
 fn use_octet(state: LinkState) -> u8 {
@@ -112,102 +109,73 @@ fn use_octet(state: LinkState) -> u8 {
     }
 }
 
-pub(super) fn flag_octet(flag: bool) -> u8 {
-    if flag { 1 } else { 0 }
-}
-
-fn put_last(last: LastDelivered, record: &mut [u8]) {
+fn put_last(before: Answer, last: LastDelivered) -> Answer {
     match last {
-        LastDelivered::Nothing => put16(record, 7, 0),
-        LastDelivered::Number(t) => {
-            put8(record, 7, 1);
-            put8(record, 8, t.0);
-        }
+        LastDelivered::Nothing => before.pair(0),
+        LastDelivered::Number(t) => before.octet(1).octet(t.0),
     }
 }
 
-fn put_half(half: HalfReceived, record: &mut [u8]) {
+fn put_message(before: Answer, m: HalfMessage) -> Answer {
+    let t = m.number;
+    let mut after = before.octet(1);
+    after = after.octet(t.0);
+    after = after.pair(m.length);
+    after = after.octet(m.check);
+    after = after.long((m.marks / 4294967296) as u32);
+    after.long((m.marks % 4294967296) as u32)
+}
+
+fn put_half(before: Answer, half: HalfReceived) -> Answer {
     match half {
-        HalfReceived::Nothing => put8(record, 9, 0),
-        HalfReceived::Message(m) => {
-            put8(record, 9, 1);
-            let t = m.number;
-            put8(record, 10, t.0);
-            put16(record, 11, m.length);
-            put8(record, 13, m.check);
-            put32(record, 14, (m.marks / 4294967296) as u32);
-            put32(record, 18, (m.marks % 4294967296) as u32);
-        }
+        HalfReceived::Nothing => before.octet(0).long(0).long(0).long(0),
+        HalfReceived::Message(m) => put_message(before, m),
     }
 }
 
-// Puts a record's 22 octets at a place of the values.
-fn put_record(link: Link, values: &mut [u8], at: usize) {
-    let mut record = [0u8; 22];
+fn put_record(before: Answer, link: Link) -> Answer {
     let state = link.state;
     let next = link.next;
     let last = link.last;
     let half = link.half;
-    put8(&mut record, 0, use_octet(state));
-    put32(&mut record, 1, link.id);
-    put8(&mut record, 5, next.0);
-    put8(&mut record, 6, flag_octet(link.outstanding));
-    put_last(last, &mut record);
-    put_half(half, &mut record);
-    octet_parts::copy(values, at, &record, 0, 22);
+    let mut after = before.octet(use_octet(state));
+    after = after.long(link.id);
+    after = after.octet(next.0);
+    after = after.flag(link.outstanding);
+    after = put_last(after, last);
+    put_half(after, half)
 }
 
-fn show(links: [Link; 8], x: &[u8], values: &mut [u8]) -> Outcome {
-    if x.len() != 1 {
-        return Outcome::Malformed;
+fn show(links: [Link; 8], x: &[u8]) -> Answer {
+    let place = place_of(octet_at(x, 0));
+    if x.len() == 1 && place < 8 {
+        let link = links[place];
+        return put_record(letter(b'L'), link);
     }
-    let socket = octet_at(x, 0);
-    if socket < 1 {
-        return Outcome::Malformed;
-    }
-    if 8 < socket {
-        return Outcome::Malformed;
-    }
-    let place = (socket - 1) as usize;
-    let link = links[place];
-    put_record(link, values, 0);
-    Outcome::Values {
-        letter: b'L',
-        count: 22,
-    }
+    malformed()
 }
 
-fn put_all(links: [Link; 8], values: &mut [u8]) {
+pub(super) fn show_all(links: [Link; 8]) -> Answer {
+    let mut after = letter(b'L');
     let mut i = 0;
     while i < 8 {
         let link = links[i];
-        put_record(link, values, 22 * i);
+        after = put_record(after, link);
         i += 1;
     }
+    after
 }
 
-pub(super) fn show_all(links: [Link; 8], values: &mut [u8]) -> Outcome {
-    put_all(links, values);
-    Outcome::Values {
-        letter: b'L',
-        count: 176,
-    }
-}
-
-pub(super) fn perform(operation: u8, links: [Link; 8], x: &[u8], values: &mut [u8]) -> Records {
+pub(super) fn perform(operation: u8, links: [Link; 8], x: &[u8]) -> Records {
     match operation {
         b'S' => set(links, x),
-        b'D' => {
-            let shown = show(links, x, values);
-            keep(links, shown)
-        }
+        b'D' => keep(links, show(links, x)),
         b'A' => {
             if x.len() != 0 {
-                return keep(links, Outcome::Malformed);
+                return keep(links, malformed());
             }
-            let shown = show_all(links, values);
-            keep(links, shown)
+            keep(links, show_all(links))
         }
-        _ => keep(links, Outcome::Malformed),
+        _ => keep(links, malformed()),
     }
 }

@@ -1,8 +1,58 @@
-// The operations of a storage: fill, write, show and hash.
-use crate::values::put32;
+// The storages stand one behind the other, and behind them the octets of the view. Their operations are fill, write, show and hash.
+use crate::answers::Answer;
+use crate::answers::done;
+use crate::answers::letter;
+use crate::answers::malformed;
 use octets::octet_at;
 use octets::read16;
-use script::Outcome;
+
+// So many octets of the storages, from a place on.
+pub(super) struct Part {
+    pub from: u16,
+    pub count: u16,
+}
+
+// The storage that a letter names; of `V` the view's octets, of `Z` all three storages.
+pub(super) fn storage_of(letter: u8) -> Part {
+    match letter {
+        b'A' => Part {
+            from: 0,
+            count: 0x2E00,
+        },
+        b'B' => Part {
+            from: 0x2E00,
+            count: 0x0600,
+        },
+        b'O' => Part {
+            from: 0x3400,
+            count: 0x1000,
+        },
+        b'V' => Part {
+            from: 0x4400,
+            count: 0x0600,
+        },
+        b'Z' => Part {
+            from: 0,
+            count: 0x4400,
+        },
+        _ => Part { from: 0, count: 0 },
+    }
+}
+
+// The first octets of a storage; past the end of all where it has not so many.
+pub(super) fn lend(letter: u8, lent: u16) -> Part {
+    let storage = storage_of(letter);
+    if storage.count < lent {
+        return Part {
+            from: 0xFFFF,
+            count: 0,
+        };
+    }
+    Part {
+        from: storage.from,
+        count: lent,
+    }
+}
 
 pub(super) fn fill_storage(storage: &mut [u8], octet: u8) {
     let mut i = 0;
@@ -12,60 +62,47 @@ pub(super) fn fill_storage(storage: &mut [u8], octet: u8) {
     }
 }
 
-fn fill(x: &[u8], storage: &mut [u8]) -> Outcome {
+fn fill(x: &[u8], storage: &mut [u8]) -> Answer {
     if x.len() != 1 {
-        return Outcome::Malformed;
+        return malformed();
     }
     fill_storage(storage, octet_at(x, 0));
-    Outcome::Done
+    done()
 }
 
-fn write(x: &[u8], storage: &mut [u8]) -> Outcome {
+fn write(x: &[u8], storage: &mut [u8]) -> Answer {
     if x.len() < 2 {
-        return Outcome::Malformed;
+        return malformed();
     }
     let place = read16(x, 0) as usize;
     if octet_parts::copy(storage, place, x, 2, x.len() - 2) {
-        return Outcome::Done;
+        return done();
     }
-    Outcome::Malformed
+    malformed()
 }
 
-fn show(x: &[u8], storage: &[u8], values: &mut [u8]) -> Outcome {
-    if x.len() != 4 {
-        return Outcome::Malformed;
-    }
+fn show(x: &[u8], storage: Part) -> Answer {
     let place = read16(x, 0) as usize;
-    let count = read16(x, 2) as usize;
-    if 0x0FA0 < count {
-        return Outcome::Malformed;
+    let count = read16(x, 2);
+    if x.len() != 4 || 0x0FA0 < count || (storage.count as usize) < place + (count as usize) {
+        return malformed();
     }
-    if octet_parts::copy(values, 0, storage, place, count) {
-        return Outcome::Values {
-            letter: b'H',
-            count: count,
-        };
-    }
-    Outcome::Malformed
+    letter(b'H').show((storage.from as usize) + place, count)
 }
 
-fn hash(x: &[u8], storage: &[u8], values: &mut [u8]) -> Outcome {
+fn hash(x: &[u8], storage: &[u8]) -> Answer {
     if x.len() != 0 {
-        return Outcome::Malformed;
+        return malformed();
     }
-    put32(values, 0, script::hash(1, storage));
-    Outcome::Values {
-        letter: b'H',
-        count: 4,
-    }
+    letter(b'H').long(script::hash(1, storage))
 }
 
-pub(super) fn perform(operation: u8, x: &[u8], storage: &mut [u8], values: &mut [u8]) -> Outcome {
-    match operation {
+pub(super) fn perform(first: u8, second: u8, x: &[u8], storage: &mut [u8]) -> Answer {
+    match second {
         b'F' => fill(x, storage),
         b'W' => write(x, storage),
-        b'D' => show(x, storage, values),
-        b'H' => hash(x, storage, values),
-        _ => Outcome::Malformed,
+        b'D' => show(x, storage_of(first)),
+        b'H' => hash(x, storage),
+        _ => malformed(),
     }
 }

@@ -1,7 +1,6 @@
 use borrow.Author.Needs.{needs}
 use lib.ListN.{length}
 use mathlib.Core.Path.{_≡_}
-use Rattle.replay.specs.Progress.{Kept}
 use Rattle.replay.proofs.run.Statement.{statement}
 use Rattle.replay.proofs.run.Tie as tie
 
@@ -11,7 +10,6 @@ Inv-loop input₀ line₀ storages₀ output₀ progress₀ turns₀ input line 
     × (length line ≡ length line₀)
     × (length storages ≡ length storages₀)
     × (length output ≡ length output₀)
-    × Kept progress line output
 
 abbrev μ-loop : tie.MeasureT-loop
 μ-loop input₀ line₀ storages₀ output₀ progress₀ turns₀ input line storages output progress turns = turns
@@ -40,8 +38,8 @@ loop-less-2 c = search needs
 loop-again-2 : tie.Need-loop-again-2 Inv-loop μ-loop
 loop-again-2 c = search needs
 
-finish-requires : tie.Need-finish-requires Inv-loop μ-loop
-finish-requires c κs = search needs
+flush-requires : tie.Need-flush-requires Inv-loop μ-loop
+flush-requires c κs = search needs
 
 same-length : tie.Need-same-length Inv-loop μ-loop
 same-length c = search needs
@@ -72,7 +70,7 @@ run-spec =
     loop-again
     loop-less-2
     loop-again-2
-    finish-requires
+    flush-requires
     same-length
     same-length-2
     same-length-3

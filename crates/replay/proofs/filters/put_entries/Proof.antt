@@ -1,15 +1,13 @@
 use borrow.Author.Needs.{needs}
 use Prim.Native.Nat.{_≤_, _-_}
-use lib.ListN.{length}
-use mathlib.Core.Path.{_≡_}
 use Rattle.replay.proofs.filters.put_entries.Statement.{statement}
 use Rattle.replay.proofs.filters.put_entries.Tie as tie
 
 abbrev Inv-loop : tie.InvT-loop
-Inv-loop values₀ entries i₀ values i = (i ≤ 16) × (length values ≡ length values₀)
+Inv-loop entries after₀ i₀ after i = i ≤ 16
 
 abbrev μ-loop : tie.MeasureT-loop
-μ-loop values₀ entries i₀ values i = 16 - i
+μ-loop entries after₀ i₀ after i = 16 - i
 
 loop-holds : tie.Need-loop-holds Inv-loop μ-loop
 loop-holds c = search needs
@@ -20,14 +18,8 @@ mul-entry c = search needs
 array-copy-out-entry : tie.Need-array-copy-out-entry Inv-loop μ-loop
 array-copy-out-entry c = search needs
 
-mul-put16 : tie.Need-mul-put16 Inv-loop μ-loop
-mul-put16 c = search needs
-
-add-put16 : tie.Need-add-put16 Inv-loop μ-loop
-add-put16 c = search needs
-
-put16-requires : tie.Need-put16-requires Inv-loop μ-loop
-put16-requires c κs = search needs
+pair-requires : tie.Need-pair-requires Inv-loop μ-loop
+pair-requires c κs = search needs
 
 add-i : tie.Need-add-i Inv-loop μ-loop
 add-i c = search needs
@@ -37,9 +29,6 @@ loop-less c = search needs
 
 loop-again : tie.Need-loop-again Inv-loop μ-loop
 loop-again c = search needs
-
-same-length : tie.Need-same-length Inv-loop μ-loop
-same-length c = search needs
 
 returns : tie.Need-returns Inv-loop μ-loop
 returns c = search needs
@@ -53,11 +42,8 @@ put-entries-spec =
     loop-holds
     mul-entry
     array-copy-out-entry
-    mul-put16
-    add-put16
-    put16-requires
+    pair-requires
     add-i
     loop-less
     loop-again
-    same-length
     returns)
