@@ -29,9 +29,10 @@ use proxy::Transfer;
 use proxy_filter::Filter;
 use records::Records;
 use script::Arguments;
+use storages::LINE;
 use storages::Part;
 use transfers::TransferStep;
-ghost use Prim.Native.Nat.{_≤_};
+ghost use Prim.Native.Nat.{_+_, _≤_};
 ghost use lib.ListN.{length};
 
 // The state that is kept between lines.
@@ -58,6 +59,7 @@ fn at_start() -> Held {
     let security = SecurityState { phase: 0, iv: iv };
     let viewed = Viewed {
         length: 0,
+        octets: [0u8; 0x0600],
         place: 0,
     };
     let links = local_calls::blank_links();
@@ -148,6 +150,10 @@ fn hash_state(held: Held) -> u32 {
     hash_answer(h, messages::show_view(viewed))
 }
 
+fn hash_all(held: Held, storages: &[u8]) -> Answer {
+    letter(b'H').long(script::hash(hash_state(held), storages))
+}
+
 // Everything as at start, or the hash of everything.
 fn perform_whole(held: Held, second: u8, x: &[u8], storages: &mut [u8]) -> Step {
     if x.len() != 0 {
@@ -158,10 +164,7 @@ fn perform_whole(held: Held, second: u8, x: &[u8], storages: &mut [u8]) -> Step 
             storages::fill_storage(storages, 0);
             keep(at_start(), done())
         }
-        b'H' => keep(
-            held,
-            letter(b'H').long(script::hash(hash_state(held), storages)),
-        ),
+        b'H' => keep(held, hash_all(held, storages)),
         _ => keep(held, malformed()),
     }
 }
@@ -274,6 +277,10 @@ fn perform_bare(held: Held, subject: Subject, first: u8, second: u8, x: &[u8]) -
             let filter = held.filter;
             with_filter(held, filters::perform(second, filter, x))
         }
+        Subject::View => {
+            let viewed = held.viewed;
+            with_viewed(held, messages::perform(second, viewed, x))
+        }
         Subject::Security => perform_security(held, first, second, x),
         Subject::Leaf => keep(held, perform_leaf(first, x)),
         _ => keep(held, malformed()),
@@ -300,10 +307,6 @@ fn perform_with(
             with_transfer(held, transfers::read(transfer, x, part))
         }
         Subject::Output => keep(held, writers::perform(first, second, x, part)),
-        Subject::View => {
-            let viewed = held.viewed;
-            with_viewed(held, messages::perform(second, viewed, x, part))
-        }
         Subject::Whole => perform_whole(held, second, x, part),
         _ => perform_bare(held, subject, first, second, x),
     }
@@ -322,24 +325,23 @@ fn perform(held: Held, first: u8, second: u8, x: &[u8], storages: &mut [u8]) -> 
 }
 
 // One line: its arguments are read, its operation performed.
-fn perform_line(held: Held, line: &[u8], storages: &mut [u8]) -> Step {
+fn perform_line(held: Held, characters: usize, kept: &mut [u8]) -> Step
+    requires { ⌜ 17408 + characters ≤ length (now kept) ⌝ }
+{
     let mut x = [0u8; 4096];
+    let line = &kept[LINE..LINE + characters];
+    let first = octet_at(line, 0);
+    let second = octet_at(line, 1);
     let Arguments::Octets(n) = script::read_arguments(line, &mut x) else {
         return keep(held, malformed());
     };
     if 4096 < n {
         return keep(held, malformed());
     }
-    perform(
-        held,
-        octet_at(line, 0),
-        octet_at(line, 1),
-        &x[0..n],
-        storages,
-    )
+    perform(held, first, second, &x[0..n], kept)
 }
 
-// How far the program has come.
+// How far the program has come. The octets of the storages and of the line are kept in a buffer.
 struct Progress {
     streams: Streams,
     // Characters of the line so far.
@@ -358,15 +360,16 @@ fn begin() -> Progress {
 }
 
 // Reads on as far as a line's end, or the end of what is there. A line that fills its buffer is longer than any operation.
-fn read_on(progress: Progress, input: &mut [u8], line: &mut [u8], output: &[u8]) -> Progress
-    ensures { λ r. ⌜ r .characters ≤ length (now (line .exit)) ⌝ }
+fn read_on(progress: Progress, input: &mut [u8], kept: &mut [u8], output: &[u8]) -> Progress
+    requires { ⌜ 17408 ≤ length (now kept) ⌝ }
+    ensures { λ r. ⌜ 17408 + r .characters ≤ length (now (kept .exit)) ⌝ }
 {
     let before = progress.streams;
     let held = progress.held;
     let streams = lines::next_piece(before, input, output);
     let from = streams.from;
     let to = streams.to;
-    let characters = line_buffer::hold(line, progress.characters, &input[from..to]);
+    let characters = line_buffer::hold(&mut kept[LINE..], progress.characters, &input[from..to]);
     Progress {
         streams: streams,
         characters: characters,
@@ -375,11 +378,11 @@ fn read_on(progress: Progress, input: &mut [u8], line: &mut [u8], output: &[u8])
 }
 
 // Writes an answer behind the text that waits.
-fn write_answer(before: Streams, answer: Answer, storages: &[u8], output: &mut [u8]) -> Streams {
+fn write_answer(before: Streams, answer: Answer, kept: &[u8], output: &mut [u8]) -> Streams {
     // The longest answer has a letter, 4,096 octets and a newline.
     let streams = lines::make_room(before, output, 8194);
     let waiting = streams.waiting;
-    let Written::Count(n) = answer.write(storages, &mut output[waiting..]) else {
+    let Written::Count(n) = answer.write(kept, &mut output[waiting..]) else {
         // Never: the room is enough for any answer.
         return streams;
     };
@@ -398,17 +401,17 @@ fn is_whole(streams: Streams, characters: usize) -> bool {
 }
 
 // Answers the line if it is whole.
-fn answer_line(progress: Progress, line: &[u8], storages: &mut [u8], output: &mut [u8]) -> Progress
-    requires { ⌜ progress .characters ≤ length (now line) ⌝ }
+fn answer_line(progress: Progress, kept: &mut [u8], output: &mut [u8]) -> Progress
+    requires { ⌜ 17408 + progress .characters ≤ length (now kept) ⌝ }
 {
     let before = progress.streams;
     let held = progress.held;
     let characters = progress.characters;
     if is_whole(before, characters) {
-        let step = perform_line(held, &line[0..characters], storages);
+        let step = perform_line(held, characters, kept);
         let after = step.held;
         let answer = step.answer;
-        let streams = write_answer(before, answer, storages, output);
+        let streams = write_answer(before, answer, kept, output);
         return Progress {
             streams: streams,
             characters: 0,
@@ -418,23 +421,21 @@ fn answer_line(progress: Progress, line: &[u8], storages: &mut [u8], output: &mu
     progress
 }
 
-fn take_turn(
-    progress: Progress,
-    input: &mut [u8],
-    line: &mut [u8],
-    storages: &mut [u8],
-    output: &mut [u8],
-) -> Progress {
-    let read = read_on(progress, input, line, output);
-    answer_line(read, line, storages, output)
+fn take_turn(progress: Progress, input: &mut [u8], kept: &mut [u8], output: &mut [u8]) -> Progress
+    requires { ⌜ 17408 ≤ length (now kept) ⌝ }
+{
+    let read = read_on(progress, input, kept, output);
+    answer_line(read, kept, output)
 }
 
-fn run(input: &mut [u8], line: &mut [u8], storages: &mut [u8], output: &mut [u8]) {
+fn run(input: &mut [u8], kept: &mut [u8], output: &mut [u8])
+    requires { ⌜ 17408 ≤ length (now kept) ⌝ }
+{
     let mut progress = begin();
     // Nothing says that the input ends, so the turns are counted down from a number that no run uses up.
     let mut turns = u64::MAX;
     while turns > 0 {
-        progress = take_turn(progress, input, line, storages, output);
+        progress = take_turn(progress, input, kept, output);
         let streams = progress.streams;
         if streams.found {
             turns -= 1;
@@ -449,8 +450,7 @@ fn run(input: &mut [u8], line: &mut [u8], storages: &mut [u8], output: &mut [u8]
 fn main() {
     let mut input = io::large_buffer();
     let mut output = io::large_buffer();
-    // One character more than the longest line.
-    let mut line = [0u8; 8193];
-    let mut storages = [0u8; 18944];
-    run(&mut input, &mut line, &mut storages, &mut output);
+    // The storages, and a line with one character more than the longest.
+    let mut kept = [0u8; 25601];
+    run(&mut input, &mut kept, &mut output);
 }

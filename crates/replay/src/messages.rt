@@ -65,9 +65,10 @@ pub(super) fn read(x: &[u8]) -> Answer {
     put_message(letter(b'M').octet(octet_at(x, 0)), message)
 }
 
-// The view: how many octets it is over, which stand at the start of its storage, and the place reached.
+// The view: how many octets it is over, which stand at the start of those here, and the place reached.
 pub(super) struct Viewed {
     pub length: usize,
+    pub octets: [u8; 0x0600],
     pub place: usize,
 }
 
@@ -84,14 +85,15 @@ fn keep(viewed: Viewed, answer: Answer) -> ViewStep {
     }
 }
 
-fn set_view(viewed: Viewed, x: &[u8], octets: &mut [u8]) -> ViewStep {
+fn set_view(viewed: Viewed, x: &[u8]) -> ViewStep {
     if x.len() < 2 {
         return keep(viewed, malformed());
     }
-    let length = x.len() - 2;
-    if octet_parts::copy(octets, 0, x, 2, length) {
+    let mut octets = [0u8; 0x0600];
+    if octet_parts::copy(&mut octets, 0, x, 2, x.len() - 2) {
         let after = Viewed {
-            length: length,
+            length: x.len() - 2,
+            octets: octets,
             place: read16(x, 0) as usize,
         };
         return keep(after, done());
@@ -112,46 +114,46 @@ fn field_answer(field: FieldRead) -> Answer {
     }
 }
 
-fn take(viewed: Viewed, octets: &[u8], wanted: Wanted) -> ViewStep {
+fn take(viewed: Viewed, wanted: Wanted) -> ViewStep {
     let length = viewed.length;
+    let held = viewed.octets;
+    let octets = &held[..];
     if octets.len() < length {
         return keep(viewed, malformed());
     }
     let step = message_view::read_field(&octets[0..length], viewed.place, wanted);
     let field = step.field;
-    let after = Viewed {
-        length: length,
-        place: step.next,
-    };
+    let mut after = viewed;
+    after.place = step.next;
     keep(after, field_answer(field))
 }
 
-fn take_long(viewed: Viewed, x: &[u8], octets: &[u8]) -> ViewStep {
+fn take_long(viewed: Viewed, x: &[u8]) -> ViewStep {
     let count = read16(x, 0) as usize;
     if x.len() == 2 && 0 < count {
-        return take(viewed, octets, Wanted::Long(count));
+        return take(viewed, Wanted::Long(count));
     }
     keep(viewed, malformed())
 }
 
-fn perform_bare(operation: u8, viewed: Viewed, octets: &[u8]) -> ViewStep {
+fn perform_bare(operation: u8, viewed: Viewed) -> ViewStep {
     match operation {
         b'D' => keep(viewed, show_view(viewed)),
-        b'B' => take(viewed, octets, Wanted::Octet),
-        b'W' => take(viewed, octets, Wanted::Pair),
+        b'B' => take(viewed, Wanted::Octet),
+        b'W' => take(viewed, Wanted::Pair),
         _ => keep(viewed, malformed()),
     }
 }
 
-pub(super) fn perform(operation: u8, viewed: Viewed, x: &[u8], octets: &mut [u8]) -> ViewStep {
-    if operation == b'S' {
-        return set_view(viewed, x, octets);
+pub(super) fn perform(operation: u8, viewed: Viewed, x: &[u8]) -> ViewStep {
+    match operation {
+        b'S' => set_view(viewed, x),
+        b'F' => take_long(viewed, x),
+        _ => {
+            if x.len() != 0 {
+                return keep(viewed, malformed());
+            }
+            perform_bare(operation, viewed)
+        }
     }
-    if operation == b'F' {
-        return take_long(viewed, x, octets);
-    }
-    if x.len() != 0 {
-        return keep(viewed, malformed());
-    }
-    perform_bare(operation, viewed, octets)
 }

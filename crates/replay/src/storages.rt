@@ -1,4 +1,4 @@
-// The storages stand one behind the other, and behind them the octets of the view. Their operations are fill, write, show and hash.
+// The storages stand one behind the other, and behind them the line. Their operations are fill, write, show and hash.
 use crate::answers::Answer;
 use crate::answers::done;
 use crate::answers::letter;
@@ -6,13 +6,16 @@ use crate::answers::malformed;
 use octets::octet_at;
 use octets::read16;
 
+// Where the line begins.
+pub(super) const LINE: usize = 0x4400;
+
 // So many octets of the storages, from a place on.
 pub(super) struct Part {
     pub from: u16,
     pub count: u16,
 }
 
-// The storage that a letter names; of `V` the view's octets, of `Z` all three storages.
+// The storage that a letter names; of `Z` all three storages.
 pub(super) fn storage_of(letter: u8) -> Part {
     match letter {
         b'A' => Part {
@@ -26,10 +29,6 @@ pub(super) fn storage_of(letter: u8) -> Part {
         b'O' => Part {
             from: 0x3400,
             count: 0x1000,
-        },
-        b'V' => Part {
-            from: 0x4400,
-            count: 0x0600,
         },
         b'Z' => Part {
             from: 0,
