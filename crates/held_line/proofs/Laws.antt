@@ -13,7 +13,7 @@ use Rattle.octets.proofs.Tests.{cases, both-hold}
 use Rattle.hex.specs.Hex.{valueOf, allDigits, isHexadecimal, octetsOf}
 use Rattle.hex.proofs.Laws.{length-octets}
 use Rattle.import_lines.specs.Lines.{isFrame, beginsOpening, isComment, otherStep, lineStep, lineArea}
-use Rattle.import_lines.specs.declared.Tray.{Tray}
+use Rattle.import_tray.specs.declared.Tray.{Tray}
 use Rattle.import_lines.proofs.Laws.{long-frames}
 use Rattle.held_line.specs.Held.{isDigit, fullAfter, heldAfter}
 

@@ -4,7 +4,7 @@ use mathlib.Core.List.{List}
 use mathlib.Core.Path.{_≡_}
 use lib.ListN.{length, take}
 use Rattle.import_lines.specs.Lines.{lineStep, lineArea}
-use Rattle.import_lines.specs.declared.Tray.{Tray}
+use Rattle.import_tray.specs.declared.Tray.{Tray}
 use Rattle.held_line.specs.Held.{heldAfter, heldOf, countAfter, bufferAfter}
 
 -- the buffer after one character more holds the text after one character more

@@ -1,6 +1,6 @@
 // Reads the log of a tray from standard input, a line for each opening and each frame heard, and writes a stock record for each module that
 // answers, to standard output.
-use import_lines::Tray;
+use import_tray::Tray;
 use lines::Streams;
 use octets::Written;
 use transactions::Socket;
@@ -47,7 +47,7 @@ fn end_line(progress: Progress, line: &[u8], area: &mut [u8], output: &mut [u8])
     let tray = progress.tray;
     let before = progress.streams;
     let number = next_number(progress.number);
-    let streams = lines::make_room(before, output, import_lines::MOST);
+    let streams = lines::make_room(before, output, line_fields::MOST);
     let waiting = streams.waiting;
     let imported = import_lines::import_line(
         tray,
@@ -129,7 +129,7 @@ fn begin(output: &mut [u8]) -> Progress
 {
     let answer = stock_record::write_header(output);
     let streams = waits(lines::start(), answer, output);
-    let tray = import_lines::new_tray();
+    let tray = import_tray::new_tray();
     Progress {
         streams: streams,
         held: 0,
@@ -150,9 +150,9 @@ fn end_input(progress: Progress, line: &[u8], area: &mut [u8], output: &mut [u8]
 
 // The line of a socket whose record is missing.
 fn put_missing(tray: Tray, socket: u8, before: Streams, output: &mut [u8]) -> Streams {
-    let streams = lines::make_room(before, output, import_lines::MOST);
+    let streams = lines::make_room(before, output, line_fields::MOST);
     let waiting = streams.waiting;
-    let answer = import_lines::missing_line(tray, Socket(socket), &mut output[waiting..]);
+    let answer = import_tray::missing_line(tray, Socket(socket), &mut output[waiting..]);
     waits(streams, answer, output)
 }
 

@@ -2,7 +2,7 @@
 use Prim.Native.Nat.{ℕ, _+_, _*_, _-_, _/_, _%_, _≤_, _<_, min}
 use native.Mathlib.Nat.{zero-add}
 use native.Mathlib.Omega.{arith}
-use mathlib.Core.Bool.{true, false, _&&_}
+use mathlib.Core.Bool.{Bool, true, false, _&&_}
 use mathlib.Core.List.{List, [], _∷_, append-nil}
 use mathlib.Core.Path.{_≡_, refl, sym, ap, _∙_}
 use lib.Dec.{leb, eqb}
@@ -16,25 +16,27 @@ use Rattle.octets.proofs.Tests.{cases, both-hold}
 use Rattle.hex.specs.Hex.{allDigits, isHexadecimal, octetsOf, decodedOf, decodedOutput}
 use Rattle.hex.specs.declared.Decoded.the-variants.{Octets, NotHexadecimal, TooLong}
 use Rattle.hex.proofs.Laws.{length-octets}
-use Rattle.transactions.specs.Numbers.{isSocket}
 use Rattle.pb_adv.specs.Frame.{parsed}
 use Rattle.transactions.specs.declared.Socket.{Socket}
 use Rattle.pb_adv.specs.declared.FrameRefusal.the-variants.{Malformed}
 use Rattle.pb_adv.specs.declared.Parsed.the-variants as P
-use Rattle.links.specs.Links.{find}
 use Rattle.links.specs.Good.{good}
-use Rattle.links.specs.Station.{received}
+use Rattle.links.specs.Station.{received, localOpen}
 use Rattle.links.specs.declared.Side.the-variants.{Provisioner}
 use Rattle.links.specs.declared.Link.{Link}
-use Rattle.links.specs.declared.Found.{Found}
-use Rattle.links.specs.declared.Found.the-variants.{At, Nowhere}
-use Rattle.links.proofs.Lens.{found-at}
+use Rattle.link_records.specs.declared.Received.{Received}
+use Rattle.local_calls.specs.Calls.{calledOf}
 use Rattle.line_fields.specs.Lines.{textWritten, textOutput}
 use Rattle.octets.specs.Writing.{written, outputAfter as textAfter}
 use Rattle.octets.specs.declared.Written.the-variants.{Count}
-use Rattle.import_lines.specs.Lines.{isFrame, beginsOpening, socketIn, idIn, stationOf, refusedStep, openedStep, frameStep, otherStep}
-use Rattle.import_lines.specs.Steps.{FoundWithin}
-use Rattle.import_lines.specs.declared.Tray.{Tray}
+use Rattle.import_tray.specs.Awaited.{trayOf}
+use Rattle.import_tray.specs.declared.Tray.{Tray}
+use Rattle.import_frames.specs.Frames.{outcomeOf, stepTo, stationOf, frameStep}
+use Rattle.import_frames.specs.Events.{eventStep, Comes}
+use Rattle.import_frames.specs.declared.Event.{Event}
+use Rattle.import_lines.specs.Lines.{isFrame, beginsOpening, isOpening, socketIn, idIn, openedBy, openedStep, otherStep}
+use Rattle.import_lines.specs.Steps.{heldFrame, openingOf, unopenedStep}
+use Rattle.import_lines.specs.declared.Opening.the-variants as O
 
 -- ---- a text that fits
 
@@ -42,10 +44,6 @@ pub text-fits : (text output : List ℕ) → length text ≤ 231 → 231 ≤ len
     → (textWritten text output ≡ Count (length text)) × (textOutput text output ≡ write output 0 text)
 unfolding written textAfter
 text-fits text output h room = rw (le-leb (length text) (length output) (omega arith)) (refl, refl)
-
-pub no-text : (output : List ℕ) → (Count 0 ≡ textWritten [] output) × (output ≡ textOutput [] output)
-unfolding written textAfter
-no-text output = rw (le-leb 0 (length output) (omega arith)) (refl, sym (write-nothing output 0))
 
 -- ---- a part that may go past the end
 
@@ -64,15 +62,6 @@ part-within l from count =
     let m : min from (length l) ≡ length l = omega arith in
     let z : min count (length l - length l) ≡ 0 = omega arith in
     rw (m, z, drop-of-length-le l {i = from} (omega arith)) (sym (take-nil count)))
-
--- ---- places
-
-pub socket-in : (s : Socket) → isSocket s 8 ≡ true → (1 ≤ s .0) × (s .0 ≤ 8)
-socket-in s e = let h = both-hold {a = leb 1 (s .0)} e in (leb-true 1 (s .0) (h .0), leb-true (s .0) 8 (h .1))
-
-pub found-within : (ls : List Link) (id : ℕ) → length ls ≡ 8 → (found : Found) → find ls id ≡ found → FoundWithin found
-found-within ls id n (At s) e = omega (arith, found-at ls id s e)
-found-within ls id n Nowhere e = tt
 
 -- ---- what a reading into a room tells
 
@@ -126,6 +115,9 @@ frame-line line p h = rw (p, le-leb 2 (length line) (omega arith))
 pub empty-line : (line : List ℕ) → length line / 2 ≡ 0 → isFrame line ≡ false
 empty-line line h = rw (lt-leb 2 (length line) (omega arith)) (cases (isHexadecimal line) (λ p. rw p) (λ p. rw p))
 
+frame-length : (line : List ℕ) → isFrame line ≡ true → 2 ≤ length line
+frame-length line p = leb-true 2 (length line) (both-hold {a = isHexadecimal line} p .1)
+
 pub no-frame : (line : List ℕ) → isHexadecimal line ≡ false → isFrame line ≡ false
 no-frame line p = rw p
 
@@ -143,6 +135,75 @@ long-frames tray area number f g p q =
     (cases (eqb (length area) (1469 * length (tray .links)))
     (λ e. rw e (cases (good Provisioner (tray .links)) (λ k. rw k (refl, refl)) (λ k. rw k (refl, refl))))
     (λ e. rw e (refl, refl)))
+
+-- ---- frames in a room of 30
+
+module _ (line room : List ℕ) where
+  held-whole : isFrame line ≡ true → length line / 2 ≤ length room → heldFrame line room ≡ octetsOf line
+  unfolding heldFrame
+  held-whole p h = rw (p, le-leb (length line / 2) (length room) h)
+
+  held-long : isFrame line ≡ true → length room < length line / 2 → heldFrame line room ≡ room
+  unfolding heldFrame
+  held-long p h = rw (p, lt-leb (length line / 2) (length room) h)
+
+  held-none : isFrame line ≡ false → heldFrame line room ≡ []
+  unfolding heldFrame
+  held-none p = rw p
+
+  -- by what the reading tells
+  pub held-octets : {n : ℕ} → decodedOf line room ≡ Octets n
+      → (n ≡ length (heldFrame line room)) × (take n (decodedOutput line room) ≡ heldFrame line room)
+  held-octets {n} e =
+      let r = read-octets line room e in
+      cases (leb 1 n)
+      (λ q. let one = leb-true 1 n q in
+      rw (held-whole (frame-line line (r .0) (omega arith)) (omega arith)) (read-front line room e))
+      (λ q. let few = leb-false 1 n q in
+      let zero : n ≡ 0 = omega arith in
+      rw (held-none (empty-line line (omega arith)), zero) (refl, refl))
+
+  pub held-other : decodedOf line room ≡ NotHexadecimal → heldFrame line room ≡ []
+  held-other e = held-none (no-frame line (read-none line room e))
+
+  pub held-room : decodedOf line room ≡ TooLong → (heldFrame line room ≡ room) × (decodedOutput line room ≡ room)
+  held-room e = let r = read-long line room e in (held-long (frame-line line (r .0) (omega (arith, r .1))) (r .1), r .2)
+
+  pub held-few : length (heldFrame line room) ≤ length room
+  unfolding heldFrame
+  held-few =
+      cases (isFrame line)
+      (λ p. rw p (cases (leb (length line / 2) (length room))
+      (λ q. rw q (omega (arith, length-octets line, leb-true (length line / 2) (length room) q)))
+      (λ q. rw q (omega arith))))
+      (λ p. rw p (omega arith))
+
+  pub held-is-frame : (length (heldFrame line room) ≡ 0 → ⊥) → isFrame line ≡ true
+  held-is-frame some = cases (isFrame line) (λ p. p) (λ p. absurd (some (rw (held-none p))))
+
+  module _ (thirty : length room ≡ 30) where
+    pub held-no-frame : length (heldFrame line room) ≡ 0 → isFrame line ≡ false
+    held-no-frame =
+        cases (isFrame line)
+        (λ p. let two = frame-length line p in
+        cases (leb (length line / 2) (length room))
+        (λ q. let few = leb-true (length line / 2) (length room) q in
+        rw (held-whole p few) (λ e. absurd (omega (arith, length-octets line))))
+        (λ q. let many = leb-false (length line / 2) (length room) q in
+        rw (held-long p many) (λ e. absurd (omega arith))))
+        (λ p e. p)
+
+    -- what is held of a frame does the same as the frame
+    pub held-same : isFrame line ≡ true → (tray : Tray) (area : List ℕ)
+        → ((number : ℕ) → frameStep tray area number (heldFrame line room) ≡ frameStep tray area number (octetsOf line))
+        × (received Provisioner (stationOf tray area) (heldFrame line room) .1 .area ≡ received Provisioner (stationOf tray area) (octetsOf line) .1 .area)
+    held-same p tray area =
+        cases (leb (length line / 2) (length room))
+        (λ q. rw (held-whole p (leb-true (length line / 2) (length room) q)) (λ number. refl, refl))
+        (λ q. let many = leb-false (length line / 2) (length room) q in
+        let long : 30 ≤ length (octetsOf line) = omega (arith, length-octets line) in
+        rw (held-long p many)
+        (λ number. long-frames tray area number room (octetsOf line) (omega arith) long .0, long-frames tray area 0 room (octetsOf line) (omega arith) long .1))
 
 -- ---- openings
 
@@ -164,11 +225,11 @@ module _ (line : List ℕ) (begins : beginsOpening line ≡ true) where
   abbrev idRoom : List ℕ
   idRoom = replicate 4 0
 
-  -- eight digits, or the line is none of the four
-  pub opening-digits : {n : ℕ} → decodedOf (drop 2 line) idRoom ≡ Octets n → (tray : Tray) (number : ℕ)
-      → otherStep tray number line ≡ openedStep tray number (socketIn line) (big32 (decodedOutput (drop 2 line) idRoom) 0)
-  unfolding otherStep
-  opening-digits e tray number =
+  -- eight digits, or the line is no opening
+  pub opening-digits : {n : ℕ} → decodedOf (drop 2 line) idRoom ≡ Octets n
+      → openingOf line ≡ O.Opens (socketIn line) (big32 (decodedOutput (drop 2 line) idRoom) 0)
+  unfolding openingOf
+  opening-digits e =
       let r = read-octets (drop 2 line) idRoom e in
       let d = both-hold {a = eqb (length (drop 2 line) % 2) 0} (r .0) in
       let four : length (octetsOf (drop 2 line)) ≡ 4 = omega (arith, length-octets (drop 2 line), digits-long) in
@@ -176,11 +237,36 @@ module _ (line : List ℕ) (begins : beginsOpening line ≡ true) where
       read-output (drop 2 line) idRoom e ∙ write-start idRoom (octetsOf (drop 2 line)) ∙ rw four (append-nil (octetsOf (drop 2 line))) in
       rw (begins, d .1, out)
 
-  pub opening-wrong : ((n : ℕ) → decodedOf (drop 2 line) idRoom ≡ Octets n → ⊥) → (tray : Tray) (number : ℕ)
-      → otherStep tray number line ≡ refusedStep tray number 11
-  unfolding otherStep decodedOf
-  opening-wrong h tray number =
-      let other = ne-eqb (getD line 0 0) 35 (λ z. absurd (omega (arith, begun-so))) in
+  pub opening-wrong : ((n : ℕ) → decodedOf (drop 2 line) idRoom ≡ Octets n → ⊥) → openingOf line ≡ O.Nothing
+  unfolding openingOf decodedOf
+  opening-wrong h =
       rw begins (cases (allDigits (drop 2 line))
       (λ p. absurd (h 4 (rw (digits-long, p))))
-      (λ p. rw (p, other)))
+      (λ p. rw p))
+
+-- the step of an opening, by the event that the local call's answer comes to
+pub opened-told : (links : List Link) (socket : Socket) (id : ℕ) (called : Received) (e : Event) → called ≡ calledOf (localOpen Provisioner links socket id)
+    → Comes e (λ tray area number. openedBy (outcomeOf (called .answer)) tray number socket)
+    → (area : List ℕ) (awaited : List Bool) (number : ℕ) → eventStep e (trayOf (called .links) awaited) area number ≡ openedStep (trayOf links awaited) number socket id
+unfolding openedStep
+opened-told links socket id called e p h area awaited number = h (trayOf (called .links) awaited) area number ∙ rw p
+
+-- a line that is no frame, by what it says as an opening
+module _ (line : List ℕ) where
+  pub opened-line : {s : Socket} {id : ℕ} → openingOf line ≡ O.Opens s id
+      → (1 ≤ s .0) × ((tray : Tray) (number : ℕ) → otherStep tray number line ≡ openedStep tray number s id)
+  unfolding openingOf otherStep
+  opened-line {s} {id} =
+      cases (isOpening line)
+      (λ p. rw p (λ e. let same : socketIn line ≡ s = cc in
+      let sameId : idIn line ≡ id = cc in
+      let b = begun-so line (both-hold {a = beginsOpening line} p .0) in
+      (rw (← same) (omega (arith, b)), λ tray number. rw (same, sameId))))
+      (λ p. rw p (λ e. let z : _≡_ {A = ℕ} 0 1 = cc in absurd (omega arith)))
+
+  pub unopened-line : openingOf line ≡ O.Nothing → (tray : Tray) (number : ℕ) → otherStep tray number line ≡ unopenedStep tray number line
+  unfolding openingOf otherStep
+  unopened-line =
+      cases (isOpening line)
+      (λ p. rw p (λ e. let z : _≡_ {A = ℕ} 0 1 = cc in absurd (omega arith)))
+      (λ p. rw p (λ e tray number. refl))

@@ -28,11 +28,13 @@ use Rattle.provisioning.specs.declared.Capabilities.{Capabilities}
 use Rattle.provisioning.specs.declared.Message.the-variants as M
 use Rattle.provisioning.proofs.Promises.{capabilities-in-place}
 use Rattle.stock_record.specs.Texts.{recordLine}
-use Rattle.import_lines.specs.Lines.{isFrame, socketAt, trayOf, stationOf, messageStep, deliveredAt, frameStep, lineStep}
+use Rattle.import_frames.specs.Frames.{socketAt, stationOf, messageStep, deliveredAt, frameStep}
+use Rattle.import_lines.specs.Lines.{isFrame, lineStep}
 use Rattle.stock_record.proofs.Promises.{record-loses-nothing}
 use Rattle.import_lines.specs.Promises.{DeliveryWrites, fieldsOf, WholeWay, RefusalKeeps}
 use Rattle.import_lines.specs.Steps.{isEnough, importedOf, areaAfter, outputAfter}
-use Rattle.import_lines.specs.declared.Tray.{Tray}
+use Rattle.import_tray.specs.Awaited.{trayOf}
+use Rattle.import_tray.specs.declared.Tray.{Tray}
 use Rattle.import_lines.proofs.Laws.{frame-line}
 
 -- the Link ID of a segment's frame, which has at least its six octets

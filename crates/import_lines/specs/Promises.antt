@@ -17,9 +17,11 @@ use Rattle.provisioning.specs.declared.Message.the-variants as M
 use Rattle.octets.specs.Writing.{told}
 use Rattle.stock_record.specs.Texts.{recordLine}
 use Rattle.stock_record.specs.Promises.{RecordLosesNothing}
-use Rattle.import_lines.specs.Lines.{lineStep, lineArea, trayOf, socketAt}
+use Rattle.import_lines.specs.Lines.{lineStep, lineArea}
 use Rattle.import_lines.specs.Steps.{importedOf, areaAfter, outputAfter}
-use Rattle.import_lines.specs.declared.Tray.{Tray}
+use Rattle.import_tray.specs.Awaited.{trayOf}
+use Rattle.import_tray.specs.declared.Tray.{Tray}
+use Rattle.import_frames.specs.Frames.{socketAt}
 
 -- the fields that the octets of a Capabilities message have at their places
 abbrev pub fieldsOf : List ℕ → Capabilities

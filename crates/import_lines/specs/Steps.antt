@@ -1,17 +1,22 @@
 -- What the calls of the import step hand back: the step, with its text at the start of the output, or refusal 11 and nothing changed.
-use Prim.Native.Nat.{ℕ, _+_, _≤_, _<_}
-use mathlib.Core.Bool.{Bool, true, cond}
-use mathlib.Core.List.{List}
+use Prim.Native.Nat.{ℕ, _/_, _≤_}
+use mathlib.Core.Bool.{Bool, cond}
+use mathlib.Core.List.{List, []}
 use mathlib.Core.Path.{_≡_}
 use lib.Dec.{leb}
 use lib.ListN.{length}
 use Rattle.octets.specs.Parts.{write}
-use Rattle.links.specs.declared.Found.{Found}
-use Rattle.links.specs.declared.Found.the-variants.{At, Nowhere}
+use Rattle.octets.specs.declared.Written.{Written}
 use Rattle.octets.specs.declared.Written.the-variants.{Count, WrongArgument}
-use Rattle.import_lines.specs.Lines.{Step}
-use Rattle.import_lines.specs.declared.Tray.{Tray}
+use Rattle.hex.specs.Hex.{octetsOf}
+use Rattle.line_fields.specs.Lines.{textWritten, textOutput}
+use Rattle.import_tray.specs.declared.Tray.{Tray}
+use Rattle.import_frames.specs.Frames.{Step, stepTo, refusedStep}
+use Rattle.import_lines.specs.Lines.{isFrame, isOpening, isComment, socketIn, idIn}
 use Rattle.import_lines.specs.declared.Imported.{Imported}
+use Rattle.import_lines.specs.declared.Opening.{Opening}
+use Rattle.import_lines.specs.declared.Opening.the-variants as O
+use Rattle.import_lines.specs.declared.Told.{Told}
 
 -- an output that has room for any line
 abbrev pub isEnough : List ℕ → Bool
@@ -35,11 +40,24 @@ areaAfter area next output = cond (isEnough output) next area
 unfoldable pub outputAfter : Step → List ℕ → List ℕ
 outputAfter x output = cond (isEnough output) (write output 0 (x .text)) output
 
--- what a function under `import_line` does, with an output that has room
-abbrev pub Does : Step → List ℕ → Imported → List ℕ → Type 0
-Does x output r after = (r ≡ stepped x) × (after ≡ write output 0 (x .text))
+-- ---- the steps under `import_line`
 
--- a place that was found is one of eight
-abbrev pub FoundWithin : Found → Type 0
-FoundWithin (At s) = s < 8
-FoundWithin Nowhere = Unit {0}
+-- what a line says as an opening
+unfoldable pub openingOf : List ℕ → Opening
+openingOf line = cond (isOpening line) (O.Opens (socketIn line) (idIn line)) O.Nothing
+
+-- a line that is neither frame nor opening
+abbrev pub unopenedStep : Tray → ℕ → List ℕ → Step
+unopenedStep tray number line = cond (isComment line) (stepTo tray []) (refusedStep tray number 11)
+
+-- the octets of a line that is a frame, in a room of 30: of a longer frame the room as it was, of any other line none
+unfoldable pub heldFrame : List ℕ → List ℕ → List ℕ
+heldFrame line room = cond (isFrame line) (cond (leb (length line / 2) (length room)) (octetsOf line) room) []
+
+-- a text at the start of an output, which has no more characters than any line
+abbrev pub TextPut : List ℕ → List ℕ → Written → List ℕ → Type 0
+TextPut text output r after = (r ≡ textWritten text output) × (after ≡ textOutput text output) × (length text ≤ 231)
+
+-- and whether a record came
+abbrev pub Tells : Bool → List ℕ → List ℕ → Told → List ℕ → Type 0
+Tells came text output r after = (r .came ≡ came) × TextPut text output (r .answer) after

@@ -1,56 +1,45 @@
-use mathlib.Core.Path.{_≡_, sym, _∙_}
-use borrow.Author.Tests.{eq-eqb, ne-eqb}
-use Rattle.octets.proofs.Parts.{write-nothing}
-use Rattle.import_lines.specs.Lines.{otherStep}
+use mathlib.Core.Path.{sym, _∙_}
+use Rattle.import_tray.specs.Awaited.{trayOf}
+use Rattle.import_lines.proofs.Laws.{opened-line, unopened-line}
 use borrow.Author.Needs.{needs}
 use Rattle.import_lines.proofs.steps.take_other.Statement.{statement}
 use Rattle.import_lines.proofs.steps.take_other.Tie as tie
 
-begins-opening-requires : tie.Need-begins-opening-requires
-begins-opening-requires c κs = search needs
+read-opening-requires : tie.Need-read-opening-requires
+read-opening-requires c κs = search needs
 
-take-opening-requires : tie.Need-take-opening-requires
-take-opening-requires c κs = (sym (c .before .before .begins-opening .ensures) ∙ c .before .if1 .taken, c .before .before .before .before .before .pre)
+enum-known-opening : tie.Need-enum-known-opening
+enum-known-opening c = search needs
 
-same-length : tie.Need-same-length
-same-length c = search needs
+open-socket-requires : tie.Need-open-socket-requires
+open-socket-requires c κs = opened-line (c .before .before .before .before .before .args .line .now) (sym (c .before .before .before .read-opening .ensures) ∙ c .before .opening .given .1) .0
 
 returns : tie.Need-returns
-returns c = search needs
+returns c =
+    let a = c .before .before .before .before .before .before .args in
+    let e = opened-line (a .line .now) (sym (c .before .before .before .before .read-opening .ensures) ∙ c .before .before .opening .given .1) in
+    λ area awaited number. c .open-socket .ensures area awaited number ∙ sym (e .1 (trayOf (a .links) awaited) number)
 
-octet-at-requires : tie.Need-octet-at-requires
-octet-at-requires c κs = search needs
+enum-told : tie.Need-enum-told
+enum-told c = search needs
 
-write-nothing-requires : tie.Need-write-nothing-requires
-write-nothing-requires c κs = search needs
+unopened-requires : tie.Need-unopened-requires
+unopened-requires c κs = search needs
 
 returns-2 : tie.Need-returns-2
-unfolding otherStep
 returns-2 c =
-    rw (← (c .before .before .before .before .begins-opening .ensures), c .before .before .before .if1 .left, eq-eqb _ _ (sym (c .before .before .octet-at .ensures) ∙ c .before .if2 .taken)) (c .write-nothing .ensures, sym (write-nothing _ 0))
-
-refuse-requires : tie.Need-refuse-requires
-refuse-requires c κs = search needs
-
-same-length-2 : tie.Need-same-length-2
-same-length-2 c = search needs
-
-returns-3 : tie.Need-returns-3
-unfolding otherStep
-returns-3 c =
-    rw (← (c .before .before .before .before .before .before .before .begins-opening .ensures), c .before .before .before .before .before .before .if1 .left, ne-eqb _ _ (λ e. c .before .before .before .before .if2 .left (c .before .before .before .before .before .octet-at .ensures ∙ e))) (c .before .before .refuse .ensures)
+    let a = c .before .before .before .before .before .args in
+    let e = unopened-line (a .line .now) (sym (c .before .before .before .read-opening .ensures) ∙ c .before .enum-told .given .1) in
+    λ area awaited number. c .unopened .ensures (trayOf (a .links) awaited) area number ∙ sym (e (trayOf (a .links) awaited) number)
 
 pub take-other-spec : {M : Type 1} → statement M
 take-other-spec =
     tie.close
     (tie.spec
-    begins-opening-requires
-    take-opening-requires
-    same-length
+    read-opening-requires
+    enum-known-opening
+    open-socket-requires
     returns
-    octet-at-requires
-    write-nothing-requires
-    returns-2
-    refuse-requires
-    same-length-2
-    returns-3)
+    enum-told
+    unopened-requires
+    returns-2)
