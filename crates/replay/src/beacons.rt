@@ -4,6 +4,7 @@ use crate::answers::done;
 use crate::answers::letter;
 use crate::answers::malformed;
 use crate::answers::refused;
+use crate::shapes::behind;
 use beacon::BeaconAnswer;
 use beacon::Hash;
 use beacon::Heard;
@@ -30,7 +31,7 @@ fn keep(state: SecurityState, answer: Answer) -> StateStep {
 }
 
 fn set(state: SecurityState, x: &[u8]) -> StateStep {
-    if x.len() == 6 && octet_at(x, 5) <= 1 {
+    if octet_at(x, 5) <= 1 {
         let iv = IvState {
             index: read32(x, 1),
             updating: octet_at(x, 5) == 1,
@@ -111,42 +112,25 @@ fn hearing_of(x: &[u8]) -> Hearing {
 
 // The first arguments are three flags.
 fn has_flags(x: &[u8]) -> bool {
-    octet_at(x, 0) <= 1 && octet_at(x, 1) <= 1 && octet_at(x, 2) <= 1
+    (octet_at(x, 0) <= 1) & (octet_at(x, 1) <= 1) & (octet_at(x, 2) <= 1)
 }
 
 pub(super) fn hear(state: SecurityState, x: &[u8]) -> StateStep {
-    if 3 <= x.len() && has_flags(x) {
-        let heard = beacon_hearing::hear_beacon(state, hearing_of(x), &x[3..]);
-        return after_hearing(heard, &x[3..]);
+    if has_flags(x) {
+        let octets = behind(x, 3);
+        return after_hearing(
+            beacon_hearing::hear_beacon(state, hearing_of(x), octets),
+            octets,
+        );
     }
     keep(state, malformed())
-}
-
-fn set_phase(state: SecurityState, x: &[u8]) -> StateStep {
-    if x.len() != 1 {
-        return keep(state, malformed());
-    }
-    let heard = key_refresh::set_phase(state, octet_at(x, 0));
-    after_hearing(heard, b"")
-}
-
-fn perform_bare(operation: u8, state: SecurityState) -> StateStep {
-    match operation {
-        b'D' => keep(state, show(state)),
-        b'I' => after_hearing(key_refresh::start_key_refresh(state), b""),
-        _ => keep(state, malformed()),
-    }
 }
 
 pub(super) fn perform(operation: u8, state: SecurityState, x: &[u8]) -> StateStep {
     match operation {
         b'S' => set(state, x),
-        b'T' => set_phase(state, x),
-        _ => {
-            if x.len() != 0 {
-                return keep(state, malformed());
-            }
-            perform_bare(operation, state)
-        }
+        b'D' => keep(state, show(state)),
+        b'I' => after_hearing(key_refresh::start_key_refresh(state), b""),
+        _ => after_hearing(key_refresh::set_phase(state, octet_at(x, 0)), b""),
     }
 }

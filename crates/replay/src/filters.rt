@@ -47,7 +47,7 @@ fn type_of(octet: u8) -> FilterType {
 }
 
 fn set(filter: Filter, x: &[u8]) -> FilterOutcome {
-    if x.len() == 34 && octet_at(x, 0) <= 1 {
+    if octet_at(x, 0) <= 1 {
         let kind = type_of(octet_at(x, 0));
         let entries = entries_of(x);
         let after = Filter {
@@ -101,18 +101,8 @@ fn after_step(step: FilterStep) -> FilterOutcome {
     }
 }
 
-fn learn(filter: Filter, x: &[u8]) -> FilterOutcome {
-    if x.len() != 2 {
-        return keep(filter, malformed());
-    }
-    after_step(filter.learn(read16(x, 0)))
-}
-
-fn pass(filter: Filter, x: &[u8]) -> Answer {
-    if x.len() != 2 {
-        return malformed();
-    }
-    let answered = filter.pass(read16(x, 0));
+fn pass(filter: Filter, address: u16) -> Answer {
+    let answered = filter.pass(address);
     match answered {
         PassAnswer::Passes => letter(b'P').octet(1),
         PassAnswer::DoesNotPass => letter(b'P').octet(0),
@@ -120,25 +110,13 @@ fn pass(filter: Filter, x: &[u8]) -> Answer {
     }
 }
 
-fn perform_bare(operation: u8, filter: Filter) -> FilterOutcome {
-    match operation {
-        b'D' => keep(filter, show(filter)),
-        b'N' => keep(Filter::new(), done()),
-        _ => keep(filter, malformed()),
-    }
-}
-
 pub(super) fn perform(operation: u8, filter: Filter, x: &[u8]) -> FilterOutcome {
     match operation {
         b'S' => set(filter, x),
+        b'D' => keep(filter, show(filter)),
+        b'N' => keep(Filter::new(), done()),
         b'M' => after_step(filter.control(x)),
-        b'L' => learn(filter, x),
-        b'P' => keep(filter, pass(filter, x)),
-        _ => {
-            if x.len() != 0 {
-                return keep(filter, malformed());
-            }
-            perform_bare(operation, filter)
-        }
+        b'L' => after_step(filter.learn(read16(x, 0))),
+        _ => keep(filter, pass(filter, read16(x, 0))),
     }
 }

@@ -5,6 +5,7 @@ mod beacons;
 mod filters;
 mod messages;
 mod records;
+mod shapes;
 mod station_calls;
 mod storages;
 mod transfers;
@@ -155,18 +156,11 @@ fn hash_all(held: Held, storages: &[u8]) -> Answer {
 }
 
 // Everything as at start, or the hash of everything.
-fn perform_whole(held: Held, second: u8, x: &[u8], storages: &mut [u8]) -> Step {
-    if x.len() != 0 {
-        return keep(held, malformed());
+fn perform_whole(held: Held, second: u8, storages: &mut [u8]) -> Step {
+    if second == b'Z' {
+        return keep(at_start(), storages::fill(0, storages));
     }
-    match second {
-        b'Z' => {
-            storages::fill_storage(storages, 0);
-            keep(at_start(), done())
-        }
-        b'H' => keep(held, hash_all(held, storages)),
-        _ => keep(held, malformed()),
-    }
+    keep(held, hash_all(held, storages))
 }
 
 // What an operation is about.
@@ -190,45 +184,36 @@ enum Subject {
     Security,
     // Nothing that is kept: the check octet, SegN, a provisioning message.
     Leaf,
-    Nothing,
 }
 
 fn if_second(second: u8, letter: u8, subject: Subject, other: Subject) -> Subject {
     if second == letter { subject } else { other }
 }
 
+fn transfer_subject(second: u8) -> Subject {
+    match second {
+        b'R' => Subject::Piece,
+        b'W' => Subject::Output,
+        _ => Subject::Transfer,
+    }
+}
+
 fn subject_of(first: u8, second: u8) -> Subject {
     match first {
         b'A' => Subject::Storage,
         b'B' => if_second(second, b'R', Subject::Security, Subject::Storage),
-        b'C' => if_second(
-            second,
-            b'K',
-            Subject::Leaf,
-            if_second(second, b'L', Subject::Station, Subject::Nothing),
-        ),
+        b'C' => if_second(second, b'K', Subject::Leaf, Subject::Station),
         b'F' => Subject::Filter,
         b'K' => Subject::Security,
         b'L' => Subject::Links,
         b'O' => if_second(second, b'P', Subject::Station, Subject::Storage),
-        b'P' => if_second(second, b'R', Subject::Leaf, Subject::Nothing),
-        b'R' => if_second(second, b'F', Subject::Frame, Subject::Nothing),
-        b'S' => if_second(
-            second,
-            b'G',
-            Subject::Leaf,
-            if_second(second, b'N', Subject::Station, Subject::Nothing),
-        ),
+        b'R' => Subject::Frame,
+        b'S' => if_second(second, b'G', Subject::Leaf, Subject::Station),
         b'V' => Subject::View,
         b'W' => Subject::Output,
-        b'X' => if_second(
-            second,
-            b'W',
-            Subject::Output,
-            if_second(second, b'R', Subject::Piece, Subject::Transfer),
-        ),
+        b'X' => transfer_subject(second),
         b'Z' => Subject::Whole,
-        _ => Subject::Nothing,
+        _ => Subject::Leaf,
     }
 }
 
@@ -282,8 +267,7 @@ fn perform_bare(held: Held, subject: Subject, first: u8, second: u8, x: &[u8]) -
             with_viewed(held, messages::perform(second, viewed, x))
         }
         Subject::Security => perform_security(held, first, second, x),
-        Subject::Leaf => keep(held, perform_leaf(first, x)),
-        _ => keep(held, malformed()),
+        _ => keep(held, perform_leaf(first, x)),
     }
 }
 
@@ -306,39 +290,70 @@ fn perform_with(
             let transfer = held.transfer;
             with_transfer(held, transfers::read(transfer, x, part))
         }
-        Subject::Output => keep(held, writers::perform(first, second, x, part)),
-        Subject::Whole => perform_whole(held, second, x, part),
+        Subject::Output => keep(held, writers::perform(second, x, part)),
+        Subject::Whole => perform_whole(held, second, part),
         _ => perform_bare(held, subject, first, second, x),
     }
 }
 
 // An operation by its two letters.
-fn perform(held: Held, first: u8, second: u8, x: &[u8], storages: &mut [u8]) -> Step {
+fn perform(held: Held, first: u8, second: u8, x: &[u8], kept: &mut [u8]) -> Step {
     let subject = subject_of(first, second);
     let part = part_of(subject, first, read16(x, 0));
     let from = part.from as usize;
     let to = from + (part.count as usize);
-    if storages.len() < to {
+    if kept.len() < to {
         return keep(held, malformed());
     }
-    perform_with(held, subject, first, second, x, &mut storages[from..to])
+    perform_with(held, subject, first, second, x, &mut kept[from..to])
 }
 
-// One line: its arguments are read, its operation performed.
-fn perform_line(held: Held, characters: usize, kept: &mut [u8]) -> Step
-    requires { ⌜ 17408 + characters ≤ length (now kept) ⌝ }
-{
-    let mut x = [0u8; 4096];
-    let line = &kept[LINE..LINE + characters];
-    let first = octet_at(line, 0);
-    let second = octet_at(line, 1);
-    let Arguments::Octets(n) = script::read_arguments(line, &mut x) else {
-        return keep(held, malformed());
-    };
-    if 4096 < n {
+// A line: two letters, and octets of arguments. No letters where it is malformed.
+struct Line {
+    first: u8,
+    second: u8,
+    count: usize,
+    octets: [u8; 4096],
+}
+
+fn read_line(text: &[u8]) -> Line {
+    let mut octets = [0u8; 4096];
+    let arguments = script::read_arguments(text, &mut octets);
+    match arguments {
+        Arguments::Octets(n) => Line {
+            first: octet_at(text, 0),
+            second: octet_at(text, 1),
+            count: n,
+            octets: octets,
+        },
+        Arguments::Malformed => Line {
+            first: 0,
+            second: 0,
+            count: 0,
+            octets: octets,
+        },
+    }
+}
+
+fn perform_line(held: Held, line: Line, kept: &mut [u8]) -> Step {
+    let octets = line.octets;
+    let all = &octets[..];
+    let count = line.count;
+    if all.len() < count {
         return keep(held, malformed());
     }
-    perform(held, first, second, &x[0..n], kept)
+    if shapes::fits(line.first, line.second, count) {
+        return perform(held, line.first, line.second, &all[0..count], kept);
+    }
+    keep(held, malformed())
+}
+
+// The characters of a line behind the storages are read, and its operation performed.
+fn perform_characters(held: Held, characters: usize, kept: &mut [u8]) -> Step
+    requires { ⌜ 17408 + characters ≤ length (now kept) ⌝ }
+{
+    let line = read_line(&kept[LINE..LINE + characters]);
+    perform_line(held, line, kept)
 }
 
 // How far the program has come. The octets of the storages and of the line are kept in a buffer.
@@ -359,6 +374,16 @@ fn begin() -> Progress {
     }
 }
 
+// Holds a piece of the input more of the line, which then has so many characters.
+fn hold(streams: Streams, characters: usize, input: &[u8], kept: &mut [u8]) -> usize
+    requires { ⌜ (streams .from ≤ streams .to) × (streams .to ≤ length (now input)) × (17408 ≤ length (now kept)) ⌝ }
+    ensures { λ r. ⌜ 17408 + r ≤ length (now (kept .exit)) ⌝ }
+{
+    let from = streams.from;
+    let to = streams.to;
+    line_buffer::hold(&mut kept[LINE..], characters, &input[from..to])
+}
+
 // Reads on as far as a line's end, or the end of what is there. A line that fills its buffer is longer than any operation.
 fn read_on(progress: Progress, input: &mut [u8], kept: &mut [u8], output: &[u8]) -> Progress
     requires { ⌜ 17408 ≤ length (now kept) ⌝ }
@@ -367,9 +392,7 @@ fn read_on(progress: Progress, input: &mut [u8], kept: &mut [u8], output: &[u8])
     let before = progress.streams;
     let held = progress.held;
     let streams = lines::next_piece(before, input, output);
-    let from = streams.from;
-    let to = streams.to;
-    let characters = line_buffer::hold(&mut kept[LINE..], progress.characters, &input[from..to]);
+    let characters = hold(streams, progress.characters, input, kept);
     Progress {
         streams: streams,
         characters: characters,
@@ -408,7 +431,7 @@ fn answer_line(progress: Progress, kept: &mut [u8], output: &mut [u8]) -> Progre
     let held = progress.held;
     let characters = progress.characters;
     if is_whole(before, characters) {
-        let step = perform_line(held, characters, kept);
+        let step = perform_characters(held, characters, kept);
         let after = step.held;
         let answer = step.answer;
         let streams = write_answer(before, answer, kept, output);

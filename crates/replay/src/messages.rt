@@ -4,6 +4,7 @@ use crate::answers::done;
 use crate::answers::letter;
 use crate::answers::malformed;
 use crate::answers::refused;
+use crate::shapes::behind;
 use message_view::FieldRead;
 use message_view::Wanted;
 use octets::octet_at;
@@ -86,13 +87,11 @@ fn keep(viewed: Viewed, answer: Answer) -> ViewStep {
 }
 
 fn set_view(viewed: Viewed, x: &[u8]) -> ViewStep {
-    if x.len() < 2 {
-        return keep(viewed, malformed());
-    }
+    let message = behind(x, 2);
     let mut octets = [0u8; 0x0600];
-    if octet_parts::copy(&mut octets, 0, x, 2, x.len() - 2) {
+    if octet_parts::copy(&mut octets, 0, message, 0, message.len()) {
         let after = Viewed {
-            length: x.len() - 2,
+            length: message.len(),
             octets: octets,
             place: read16(x, 0) as usize,
         };
@@ -128,32 +127,19 @@ fn take(viewed: Viewed, wanted: Wanted) -> ViewStep {
     keep(after, field_answer(field))
 }
 
-fn take_long(viewed: Viewed, x: &[u8]) -> ViewStep {
-    let count = read16(x, 0) as usize;
-    if x.len() == 2 && 0 < count {
-        return take(viewed, Wanted::Long(count));
+fn take_long(viewed: Viewed, count: u16) -> ViewStep {
+    if count == 0 {
+        return keep(viewed, malformed());
     }
-    keep(viewed, malformed())
-}
-
-fn perform_bare(operation: u8, viewed: Viewed) -> ViewStep {
-    match operation {
-        b'D' => keep(viewed, show_view(viewed)),
-        b'B' => take(viewed, Wanted::Octet),
-        b'W' => take(viewed, Wanted::Pair),
-        _ => keep(viewed, malformed()),
-    }
+    take(viewed, Wanted::Long(count as usize))
 }
 
 pub(super) fn perform(operation: u8, viewed: Viewed, x: &[u8]) -> ViewStep {
     match operation {
         b'S' => set_view(viewed, x),
-        b'F' => take_long(viewed, x),
-        _ => {
-            if x.len() != 0 {
-                return keep(viewed, malformed());
-            }
-            perform_bare(operation, viewed)
-        }
+        b'D' => keep(viewed, show_view(viewed)),
+        b'B' => take(viewed, Wanted::Octet),
+        b'W' => take(viewed, Wanted::Pair),
+        _ => take_long(viewed, read16(x, 0)),
     }
 }

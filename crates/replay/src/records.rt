@@ -68,16 +68,7 @@ fn link_of(x: &[u8]) -> Link {
 
 // Whether a use and three flags are in their ranges.
 fn is_record(x: &[u8]) -> bool {
-    if 2 < octet_at(x, 1) {
-        return false;
-    }
-    if 1 < octet_at(x, 7) {
-        return false;
-    }
-    if 1 < octet_at(x, 8) {
-        return false;
-    }
-    octet_at(x, 10) <= 1
+    (octet_at(x, 1) <= 2) & (octet_at(x, 7) <= 1) & (octet_at(x, 8) <= 1) & (octet_at(x, 10) <= 1)
 }
 
 // The place of a socket's record; 8 where there is no such socket.
@@ -93,7 +84,7 @@ fn place_of(socket: u8) -> usize {
 
 fn set(links: [Link; 8], x: &[u8]) -> Records {
     let place = place_of(octet_at(x, 0));
-    if x.len() == 23 && place < 8 && is_record(x) {
+    if place < 8 && is_record(x) {
         let mut after = links;
         after[place] = link_of(x);
         return keep(after, done());
@@ -148,7 +139,7 @@ fn put_record(before: Answer, link: Link) -> Answer {
 
 fn show(links: [Link; 8], x: &[u8]) -> Answer {
     let place = place_of(octet_at(x, 0));
-    if x.len() == 1 && place < 8 {
+    if place < 8 {
         let link = links[place];
         return put_record(letter(b'L'), link);
     }
@@ -170,12 +161,6 @@ pub(super) fn perform(operation: u8, links: [Link; 8], x: &[u8]) -> Records {
     match operation {
         b'S' => set(links, x),
         b'D' => keep(links, show(links, x)),
-        b'A' => {
-            if x.len() != 0 {
-                return keep(links, malformed());
-            }
-            keep(links, show_all(links))
-        }
-        _ => keep(links, malformed()),
+        _ => keep(links, show_all(links)),
     }
 }

@@ -1,11 +1,10 @@
 // The calls of the station.
 use crate::answers::Answer;
-use crate::answers::done;
 use crate::answers::letter;
-use crate::answers::malformed;
 use crate::answers::refused;
 use crate::records::Records;
 use crate::records::keep;
+use crate::shapes::behind;
 use link_records::Received;
 use links::Answer as Answered;
 use links::Link;
@@ -14,21 +13,28 @@ use octets::read16;
 use octets::read32;
 use transactions::Socket;
 
+// The letter of an answer that has no fields.
+fn letter_of(answered: Answered) -> u8 {
+    match answered {
+        Answered::AcknowledgeAgain => b'G',
+        Answered::Kept => b'K',
+        Answered::Repeat => b'R',
+        Answered::Opened => b'U',
+        Answered::Already => b'Y',
+        Answered::Acknowledged => b'A',
+        _ => b'O',
+    }
+}
+
 fn answer_of(answered: Answered) -> Answer {
     match answered {
         Answered::Refused(r) => refused(refusal_numbers::of_station(r)),
-        Answered::AcknowledgeAgain => letter(b'G'),
-        Answered::Kept => letter(b'K'),
-        Answered::Repeat => letter(b'R'),
         Answered::Delivered { length, number } => letter(b'D').pair(length).octet(number.0),
-        Answered::Opened => letter(b'U'),
-        Answered::Already => letter(b'Y'),
         Answered::Closed { reason } => letter(b'C').octet(reason),
-        Answered::Acknowledged => letter(b'A'),
         Answered::Sending { number, last } => letter(b'S')
             .octet(number.0)
             .octet((last % 256) as u8),
-        Answered::Done => done(),
+        _ => letter(letter_of(answered)),
     }
 }
 
@@ -38,36 +44,20 @@ fn after(received: Received) -> Records {
     keep(links, answer_of(answered))
 }
 
-fn unchanged(links: [Link; 8]) -> Records {
-    keep(links, malformed())
-}
-
 // A frame is received, with octets of storage A lent.
 pub(super) fn receive(links: [Link; 8], x: &[u8], area: &mut [u8]) -> Records {
-    if x.len() < 2 {
-        return unchanged(links);
-    }
-    after(station::receive(links, area, &x[2..]))
+    after(station::receive(links, area, behind(x, 2)))
 }
 
 fn open(links: [Link; 8], x: &[u8]) -> Records {
-    if x.len() != 5 {
-        return unchanged(links);
-    }
     after(local_calls::open(links, Socket(octet_at(x, 0)), read32(x, 1)))
 }
 
 fn send(links: [Link; 8], x: &[u8]) -> Records {
-    if x.len() != 3 {
-        return unchanged(links);
-    }
     after(local_calls::send(links, Socket(octet_at(x, 0)), read16(x, 1) as usize))
 }
 
 fn close(links: [Link; 8], x: &[u8]) -> Records {
-    if x.len() != 1 {
-        return unchanged(links);
-    }
     after(local_calls::close(links, Socket(octet_at(x, 0))))
 }
 

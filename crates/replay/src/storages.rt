@@ -3,6 +3,7 @@ use crate::answers::Answer;
 use crate::answers::done;
 use crate::answers::letter;
 use crate::answers::malformed;
+use crate::shapes::behind;
 use octets::octet_at;
 use octets::read16;
 
@@ -53,28 +54,18 @@ pub(super) fn lend(letter: u8, lent: u16) -> Part {
     }
 }
 
-pub(super) fn fill_storage(storage: &mut [u8], octet: u8) {
+pub(super) fn fill(octet: u8, storage: &mut [u8]) -> Answer {
     let mut i = 0;
     while i < storage.len() {
         storage[i] = octet;
         i += 1;
     }
-}
-
-fn fill(x: &[u8], storage: &mut [u8]) -> Answer {
-    if x.len() != 1 {
-        return malformed();
-    }
-    fill_storage(storage, octet_at(x, 0));
     done()
 }
 
 fn write(x: &[u8], storage: &mut [u8]) -> Answer {
-    if x.len() < 2 {
-        return malformed();
-    }
-    let place = read16(x, 0) as usize;
-    if octet_parts::copy(storage, place, x, 2, x.len() - 2) {
+    let written = behind(x, 2);
+    if octet_parts::copy(storage, read16(x, 0) as usize, written, 0, written.len()) {
         return done();
     }
     malformed()
@@ -83,25 +74,17 @@ fn write(x: &[u8], storage: &mut [u8]) -> Answer {
 fn show(x: &[u8], storage: Part) -> Answer {
     let place = read16(x, 0) as usize;
     let count = read16(x, 2);
-    if x.len() != 4 || 0x0FA0 < count || (storage.count as usize) < place + (count as usize) {
+    if (0x0FA0 < count) | ((storage.count as usize) < place + (count as usize)) {
         return malformed();
     }
     letter(b'H').show((storage.from as usize) + place, count)
 }
 
-fn hash(x: &[u8], storage: &[u8]) -> Answer {
-    if x.len() != 0 {
-        return malformed();
-    }
-    letter(b'H').long(script::hash(1, storage))
-}
-
 pub(super) fn perform(first: u8, second: u8, x: &[u8], storage: &mut [u8]) -> Answer {
     match second {
-        b'F' => fill(x, storage),
+        b'F' => fill(octet_at(x, 0), storage),
         b'W' => write(x, storage),
         b'D' => show(x, storage_of(first)),
-        b'H' => hash(x, storage),
-        _ => malformed(),
+        _ => letter(b'H').long(script::hash(1, storage)),
     }
 }

@@ -4,6 +4,7 @@ use crate::answers::done;
 use crate::answers::letter;
 use crate::answers::malformed;
 use crate::answers::refused;
+use crate::shapes::behind;
 use octets::octet_at;
 use octets::read16;
 use proxy::ConnectionAnswer;
@@ -37,7 +38,7 @@ fn half_of(x: &[u8]) -> HalfTransfer {
 }
 
 fn set(transfer: Transfer, x: &[u8]) -> TransferStep {
-    if x.len() == 5 && octet_at(x, 0) <= 1 && octet_at(x, 1) <= 1 {
+    if (octet_at(x, 0) <= 1) & (octet_at(x, 1) <= 1) {
         let half = half_of(x);
         let after = Transfer {
             connected: octet_at(x, 0) == 1,
@@ -76,19 +77,13 @@ fn piece_answer(answered: PieceAnswer) -> Answer {
 
 // Reads a piece, with octets of storage B lent.
 pub(super) fn read(transfer: Transfer, x: &[u8], buffer: &mut [u8]) -> TransferStep {
-    if x.len() < 2 {
-        return keep(transfer, malformed());
-    }
-    let read = proxy_reading::read_piece(transfer, buffer, &x[2..]);
+    let read = proxy_reading::read_piece(transfer, buffer, behind(x, 2));
     let after = read.transfer;
     let answered = read.answer;
     keep(after, piece_answer(answered))
 }
 
 fn count(x: &[u8]) -> Answer {
-    if x.len() != 4 {
-        return malformed();
-    }
     let counted = proxy_writing::count_pieces(read16(x, 0) as usize, read16(x, 2) as usize);
     match counted {
         PieceCount::Pieces(n) => letter(b'N').octet((n % 256) as u8),
@@ -96,24 +91,12 @@ fn count(x: &[u8]) -> Answer {
     }
 }
 
-fn perform_bare(operation: u8, transfer: Transfer) -> TransferStep {
-    match operation {
-        b'D' => keep(transfer, show(transfer)),
-        b'C' => after_connecting(proxy_connection::connect(transfer)),
-        b'X' => after_connecting(proxy_connection::disconnect(transfer)),
-        _ => keep(transfer, malformed()),
-    }
-}
-
 pub(super) fn perform(operation: u8, transfer: Transfer, x: &[u8]) -> TransferStep {
     match operation {
         b'S' => set(transfer, x),
-        b'N' => keep(transfer, count(x)),
-        _ => {
-            if x.len() != 0 {
-                return keep(transfer, malformed());
-            }
-            perform_bare(operation, transfer)
-        }
+        b'D' => keep(transfer, show(transfer)),
+        b'C' => after_connecting(proxy_connection::connect(transfer)),
+        b'X' => after_connecting(proxy_connection::disconnect(transfer)),
+        _ => keep(transfer, count(x)),
     }
 }
