@@ -1,21 +1,25 @@
 -- What a line comes to, the event of the line, and the step that follows from it.
-use Prim.Native.Nat.{ℕ, _<_}
+use Prim.Native.Nat.{ℕ, _*_, _<_}
 use mathlib.Core.Bool.{Bool, true, false, cond}
 use mathlib.Core.List.{List, []}
 use mathlib.Core.Path.{_≡_}
 use lib.ListN.{set}
 use Rattle.octets.specs.Parts.{part}
 use Rattle.pb_adv.specs.Frame.{linkId}
+use Rattle.transactions.specs.declared.TransactionNumber.{TransactionNumber}
 use Rattle.links.specs.Links.{find}
 use Rattle.links.specs.declared.Link.{Link}
 use Rattle.links.specs.declared.Found.{Found}
 use Rattle.links.specs.declared.Found.the-variants.{At, Nowhere}
+use Rattle.station.specs.Calls.{receiving}
 use Rattle.provisioning.specs.Message.{messageRead}
 use Rattle.provisioning.specs.declared.Message.{Message}
 use Rattle.stock_record.specs.Texts.{recordLine, otherLine, refusalLine}
 use Rattle.import_tray.specs.Awaited.{trayOf}
 use Rattle.import_tray.specs.declared.Tray.{Tray}
-use Rattle.import_frames.specs.Frames.{Step, stepTo, readingOf}
+use Rattle.import_frames.specs.Frames.{Step, stepTo, socketAt, outcomeOf, readingOf}
+use Rattle.import_frames.specs.declared.Outcome.{Outcome}
+use Rattle.import_frames.specs.declared.Outcome.the-variants as O
 use Rattle.import_frames.specs.declared.Reading.{Reading}
 use Rattle.import_frames.specs.declared.Reading.the-variants as R
 use Rattle.import_frames.specs.declared.Delivery.{Delivery}
@@ -68,14 +72,6 @@ eventAwaited (E.Delivered d) came awaited = cond came (set awaited (d .place) fa
 abbrev pub eventStep : Event → Tray → List ℕ → ℕ → Step
 eventStep e tray area number = stepTo (trayOf (tray .links) (eventAwaited e (bringsRecord e area) (tray .awaited))) (eventText e area number)
 
--- an event is that of a step, from any tray
-abbrev pub Comes : Event → (Tray → List ℕ → ℕ → Step) → Type 0
-Comes e step = (tray : Tray) (area : List ℕ) (number : ℕ) → eventStep e tray area number ≡ step tray area number
-
--- records and an event are those of a step, whatever is awaited
-abbrev pub Does : Taken → List ℕ → (List Bool → ℕ → Step) → Type 0
-Does taken area step = (awaited : List Bool) (number : ℕ) → eventStep (taken .event) (trayOf (taken .links) awaited) area number ≡ step awaited number
-
 -- ---- who sent a frame
 
 abbrev pub senderOf : List Link → List ℕ → Sender
@@ -85,3 +81,31 @@ senderOf links f = record { id = linkId f; found = find links (linkId f) }
 abbrev pub FoundWithin : Found → Type 0
 FoundWithin (At s) = s < 8
 FoundWithin Nowhere = Unit {0}
+
+-- ---- what a frame comes to
+
+-- a delivery of n octets at the place that was found
+abbrev pub deliveredEvent : Found → ℕ → ℕ → TransactionNumber → Event
+deliveredEvent (At s) id n t = E.Delivered (record { place = s; socket = socketAt s; id = id; transaction = t; from = 1469 * s; count = n })
+deliveredEvent Nowhere id n t = E.Nothing
+
+-- what the station's answer comes to
+abbrev pub heardEvent : Outcome → Sender → Event
+heardEvent (O.Refused n) sender = E.Refused n
+heardEvent (O.Delivered n t) sender = deliveredEvent (sender .found) (sender .id) n t
+heardEvent O.Nothing sender = E.Nothing
+
+-- A FRAME AS IT WAS HEARD: the receiving call, then by its answer
+unfoldable pub frameTaken : List Link → List ℕ → List ℕ → Taken
+frameTaken links area f =
+    record { links = receiving links area f .1 .links; event = heardEvent (outcomeOf (receiving links area f .0)) (senderOf links f) }
+
+-- ---- events and steps
+
+-- an event is that of a step, from any tray
+abbrev pub Comes : Event → (Tray → List ℕ → ℕ → Step) → Type 0
+Comes e step = (tray : Tray) (area : List ℕ) (number : ℕ) → eventStep e tray area number ≡ step tray area number
+
+-- records and an event are those of a step, whatever is awaited
+abbrev pub Does : Taken → List ℕ → (List Bool → ℕ → Step) → Type 0
+Does taken area step = (awaited : List Bool) (number : ℕ) → eventStep (taken .event) (trayOf (taken .links) awaited) area number ≡ step awaited number

@@ -8,9 +8,8 @@ use transactions::Socket;
 use transactions::TransactionNumber;
 ghost use mathlib.Core.Path.{_≡_};
 ghost use Rattle.station.specs.Calls.{receiving};
-ghost use Rattle.import_tray.specs.Awaited.{trayOf};
-ghost use Rattle.import_frames.specs.Frames.{outcomeOf, deliveredAt, frameBy, frameStep};
-ghost use Rattle.import_frames.specs.Events.{senderOf, Comes, Does, FoundWithin};
+ghost use Rattle.import_frames.specs.Frames.{outcomeOf};
+ghost use Rattle.import_frames.specs.Events.{senderOf, deliveredEvent, heardEvent, frameTaken, FoundWithin};
 
 // What an answer of the station comes to. A refusal has document 01's number.
 pub enum Outcome {
@@ -75,7 +74,7 @@ fn outcome_of(answer: Answer) -> Outcome
 // A delivery of so many octets.
 fn delivered(sender: Sender, count: u16, transaction: TransactionNumber) -> Event
     requires { ⌜ FoundWithin (sender .found) ⌝ }
-    ensures { λ r. ⌜ Comes r (λ tray area number. deliveredAt (sender .found) tray area number (sender .id) count transaction) ⌝ }
+    ensures { λ r. ⌜ r ≡ deliveredEvent (sender .found) (sender .id) count transaction ⌝ }
 {
     let found = sender.found;
     let Found::At(place) = found else {
@@ -94,7 +93,7 @@ fn delivered(sender: Sender, count: u16, transaction: TransactionNumber) -> Even
 // What the station's answer to a frame comes to.
 fn heard(answer: Answer, sender: Sender) -> Event
     requires { ⌜ FoundWithin (sender .found) ⌝ }
-    ensures { λ r. ⌜ Comes r (λ tray area number. frameBy (outcomeOf answer) (sender .found) tray area number (sender .id)) ⌝ }
+    ensures { λ r. ⌜ r ≡ heardEvent (outcomeOf answer) sender ⌝ }
 {
     let outcome = outcome_of(answer);
     match outcome {
@@ -117,7 +116,7 @@ fn find_sender(links: [Link; 8], frame: &[u8]) -> Sender
 
 // A frame as it was heard: the receiving call, then by its answer.
 pub fn take_frame(links: [Link; 8], area: &mut [u8], frame: &[u8]) -> Taken
-    ensures { λ r. ⌜ Does r (now (area .exit)) (λ awaited number. frameStep (trayOf links awaited) (now (area .entry)) number (now (frame .entry)))
+    ensures { λ r. ⌜ (r ≡ frameTaken links (now (area .entry)) (now (frame .entry)))
         × (now (area .exit) ≡ receiving links (now (area .entry)) (now (frame .entry)) .1 .area) ⌝ }
 {
     let sender = find_sender(links, frame);

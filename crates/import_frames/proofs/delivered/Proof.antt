@@ -1,8 +1,6 @@
 use native.Mathlib.Omega.{arith}
-use mathlib.Core.Path.{refl, subst}
-use Rattle.import_frames.specs.Frames.{deliveredAt}
+use mathlib.Core.Path.{subst}
 use Rattle.import_frames.specs.Events.{FoundWithin}
-use Rattle.import_frames.proofs.Laws.{delivery-told}
 use borrow.Author.Needs.{needs}
 use Rattle.import_frames.proofs.delivered.Statement.{statement}
 use Rattle.import_frames.proofs.delivered.Tie as tie
@@ -14,8 +12,7 @@ enum-told : tie.Need-enum-told
 enum-told c = search needs
 
 returns : tie.Need-returns
-unfolding deliveredAt
-returns c = λ tray area number. rw (c .enum-told .given .1)
+returns c = rw (c .enum-told .given .1)
 
 cast-t6 : tie.Need-cast-t6
 cast-t6 c = omega (arith, subst FoundWithin (c .before .found .given .1) (c .before .before .before .pre))
@@ -27,7 +24,7 @@ mul-t9 : tie.Need-mul-t9
 mul-t9 c = omega (arith, subst FoundWithin (c .before .found .given .1) (c .before .before .before .pre))
 
 returns-2 : tie.Need-returns-2
-returns-2 c = λ tray area number. rw (c .before .found .given .1) (delivery-told _ refl refl tray area number)
+returns-2 c = rw (c .before .found .given .1)
 
 pub delivered-spec : {M : Type 1} → statement M
 delivered-spec =

@@ -21,17 +21,17 @@ enum-told c = search needs
 returns : tie.Need-returns
 returns c =
     let e = sym (c .before .before .before .outcome-of .ensures) ∙ c .before .outcome .given .1 in
-    λ tray area number. rw e
+    rw e
 
 returns-2 : tie.Need-returns-2
 returns-2 c =
     let e = sym (c .before .before .before .before .outcome-of .ensures) ∙ c .before .before .outcome2 .given .1 in
-    λ tray area number. rw e (c .delivered .ensures tray area number)
+    rw e (c .delivered .ensures)
 
 returns-3 : tie.Need-returns-3
 returns-3 c =
     let e = sym (c .before .before .outcome-of .ensures) ∙ c .enum-told .given .1 in
-    λ tray area number. rw e
+    rw e
 
 pub heard-spec : {M : Type 1} → statement M
 heard-spec =

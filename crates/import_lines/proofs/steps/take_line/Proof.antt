@@ -3,7 +3,9 @@ use lib.ListN.{replicate}
 use mathlib.Core.Path.{refl, sym, _∙_}
 use Rattle.import_tray.specs.Awaited.{trayOf}
 use Rattle.import_lines.proofs.Laws.{held-few, held-no-frame, held-is-frame, held-same}
+use Rattle.import_frames.proofs.Laws.{frame-does}
 use Rattle.import_lines.specs.Lines.{lineStep, lineArea}
+use Rattle.import_lines.specs.Steps.{heldFrame}
 use borrow.Author.Needs.{needs}
 use Rattle.import_lines.proofs.steps.take_line.Statement.{statement}
 use Rattle.import_lines.proofs.steps.take_line.Tie as tie
@@ -43,9 +45,11 @@ returns-2 c =
     let k = c .before .before .before .before .before .before .before .read-frame .ensures in
     let some = held-is-frame (a .line .now) (replicate 30 0) (λ e. c .before .before .before .before .before .if1 .left (k .0 ∙ e)) in
     let w = rw (k .1) at (c .before .before .take-frame .ensures) in
-    rw some (
-      λ awaited number. w .0 awaited number ∙ held-same (a .line .now) (replicate 30 0) refl some (trayOf (a .links) awaited) (a .area .now) .0 number,
-      λ awaited. w .1 ∙ held-same (a .line .now) (replicate 30 0) refl some (trayOf (a .links) awaited) (a .area .now) .1,
+    let f = heldFrame (a .line .now) (replicate 30 0) in
+    rw (some, w .0, w .1) (
+      λ awaited number. frame-does (a .links) (a .area .now) f awaited number
+          ∙ held-same (a .line .now) (replicate 30 0) refl some (trayOf (a .links) awaited) (a .area .now) .0 number,
+      λ awaited. held-same (a .line .now) (replicate 30 0) refl some (trayOf (a .links) awaited) (a .area .now) .1,
     )
 
 pub take-line-spec : {M : Type 1} → statement M
