@@ -68,20 +68,6 @@ impl Answer {
             .pair((number % 65536) as u16)
     }
 
-    // So many octets of a list from a place on.
-    pub fn octets(self, list: &[u8], from: usize, count: u8) -> Answer {
-        let at = self.count as usize;
-        if MOST < at + (count as usize) {
-            return self;
-        }
-        let mut octets = self.octets;
-        octet_parts::copy(&mut octets, at, list, from, count as usize);
-        let mut after = self;
-        after.octets = octets;
-        after.count = self.count + count;
-        after
-    }
-
     // Octets of the storages, behind all fields.
     pub fn show(self, from: usize, count: u16) -> Answer {
         let mut after = self;

@@ -2,7 +2,6 @@
 use crate::answers::Answer;
 use crate::answers::done;
 use crate::answers::letter;
-use crate::answers::malformed;
 use crate::answers::refused;
 use crate::shapes::behind;
 use beacon::BeaconAnswer;
@@ -30,19 +29,16 @@ fn keep(state: SecurityState, answer: Answer) -> StateStep {
     }
 }
 
-fn set(state: SecurityState, x: &[u8]) -> StateStep {
-    if octet_at(x, 5) <= 1 {
-        let iv = IvState {
-            index: read32(x, 1),
-            updating: octet_at(x, 5) == 1,
-        };
-        let after = SecurityState {
-            phase: octet_at(x, 0),
-            iv: iv,
-        };
-        return keep(after, done());
-    }
-    keep(state, malformed())
+fn set(x: &[u8]) -> StateStep {
+    let iv = IvState {
+        index: read32(x, 1),
+        updating: octet_at(x, 5) == 1,
+    };
+    let after = SecurityState {
+        phase: octet_at(x, 0),
+        iv: iv,
+    };
+    keep(after, done())
 }
 
 pub(super) fn show(state: SecurityState) -> Answer {
@@ -61,8 +57,13 @@ fn put_hash(answer: Answer, beacon: &[u8], hash: Hash) -> Answer {
 }
 
 fn unprovisioned(uuid: usize, oob: u16, hash: Hash, beacon: &[u8]) -> Answer {
-    let named = letter(b'U').octets(beacon, uuid, 16);
-    put_hash(named.pair(oob), beacon, hash)
+    let octets = behind(beacon, uuid);
+    let mut after = letter(b'U').long(read32(octets, 0));
+    after = after.long(read32(octets, 4));
+    after = after.long(read32(octets, 8));
+    after = after.long(read32(octets, 12));
+    after = after.pair(oob);
+    put_hash(after, beacon, hash)
 }
 
 fn report_octet(report: IvReport) -> u8 {
@@ -110,27 +111,19 @@ fn hearing_of(x: &[u8]) -> Hearing {
     }
 }
 
-// The first arguments are three flags.
-fn has_flags(x: &[u8]) -> bool {
-    (octet_at(x, 0) <= 1) & (octet_at(x, 1) <= 1) & (octet_at(x, 2) <= 1)
-}
-
 pub(super) fn hear(state: SecurityState, x: &[u8]) -> StateStep {
-    if has_flags(x) {
-        let octets = behind(x, 3);
-        return after_hearing(
-            beacon_hearing::hear_beacon(state, hearing_of(x), octets),
-            octets,
-        );
-    }
-    keep(state, malformed())
+    let octets = behind(x, 3);
+    after_hearing(
+        beacon_hearing::hear_beacon(state, hearing_of(x), octets),
+        octets,
+    )
 }
 
 pub(super) fn perform(operation: u8, state: SecurityState, x: &[u8]) -> StateStep {
     match operation {
-        b'S' => set(state, x),
+        b'S' => set(x),
         b'D' => keep(state, show(state)),
-        b'I' => after_hearing(key_refresh::start_key_refresh(state), b""),
-        _ => after_hearing(key_refresh::set_phase(state, octet_at(x, 0)), b""),
+        b'I' => after_hearing(key_refresh::start_key_refresh(state), x),
+        _ => after_hearing(key_refresh::set_phase(state, octet_at(x, 0)), x),
     }
 }

@@ -2,7 +2,6 @@
 use crate::answers::Answer;
 use crate::answers::done;
 use crate::answers::letter;
-use crate::answers::malformed;
 use crate::answers::refused;
 use filter_entries::Entry;
 use filter_messages::FilterAnswer;
@@ -46,18 +45,15 @@ fn type_of(octet: u8) -> FilterType {
     FilterType::RejectList
 }
 
-fn set(filter: Filter, x: &[u8]) -> FilterOutcome {
-    if octet_at(x, 0) <= 1 {
-        let kind = type_of(octet_at(x, 0));
-        let entries = entries_of(x);
-        let after = Filter {
-            kind: kind,
-            count: octet_at(x, 1),
-            entries: entries,
-        };
-        return keep(after, done());
-    }
-    keep(filter, malformed())
+fn set(x: &[u8]) -> FilterOutcome {
+    let kind = type_of(octet_at(x, 0));
+    let entries = entries_of(x);
+    let after = Filter {
+        kind: kind,
+        count: octet_at(x, 1),
+        entries: entries,
+    };
+    keep(after, done())
 }
 
 fn put_entries(before: Answer, entries: [Entry; 16]) -> Answer {
@@ -112,7 +108,7 @@ fn pass(filter: Filter, address: u16) -> Answer {
 
 pub(super) fn perform(operation: u8, filter: Filter, x: &[u8]) -> FilterOutcome {
     match operation {
-        b'S' => set(filter, x),
+        b'S' => set(x),
         b'D' => keep(filter, show(filter)),
         b'N' => keep(Filter::new(), done()),
         b'M' => after_step(filter.control(x)),

@@ -151,16 +151,15 @@ fn hash_state(held: Held) -> u32 {
     hash_answer(h, messages::show_view(viewed))
 }
 
-fn hash_all(held: Held, storages: &[u8]) -> Answer {
-    letter(b'H').long(script::hash(hash_state(held), storages))
-}
-
 // Everything as at start, or the hash of everything.
 fn perform_whole(held: Held, second: u8, storages: &mut [u8]) -> Step {
     if second == b'Z' {
         return keep(at_start(), storages::fill(0, storages));
     }
-    keep(held, hash_all(held, storages))
+    keep(
+        held,
+        letter(b'H').long(script::hash(hash_state(held), storages)),
+    )
 }
 
 // What an operation is about.
@@ -181,6 +180,8 @@ enum Subject {
     Station,
     Transfer,
     Filter,
+    // Reading a beacon.
+    Beacon,
     Security,
     // Nothing that is kept: the check octet, SegN, a provisioning message.
     Leaf,
@@ -201,7 +202,7 @@ fn transfer_subject(second: u8) -> Subject {
 fn subject_of(first: u8, second: u8) -> Subject {
     match first {
         b'A' => Subject::Storage,
-        b'B' => if_second(second, b'R', Subject::Security, Subject::Storage),
+        b'B' => if_second(second, b'R', Subject::Beacon, Subject::Storage),
         b'C' => if_second(second, b'K', Subject::Leaf, Subject::Station),
         b'F' => Subject::Filter,
         b'K' => Subject::Security,
@@ -235,14 +236,6 @@ fn perform_leaf(first: u8, x: &[u8]) -> Answer {
     }
 }
 
-fn perform_security(held: Held, first: u8, second: u8, x: &[u8]) -> Step {
-    let security = held.security;
-    if first == b'B' {
-        return with_security(held, beacons::hear(security, x));
-    }
-    with_security(held, beacons::perform(second, security, x))
-}
-
 // The operations that use no storage.
 fn perform_bare(held: Held, subject: Subject, first: u8, second: u8, x: &[u8]) -> Step {
     match subject {
@@ -266,7 +259,14 @@ fn perform_bare(held: Held, subject: Subject, first: u8, second: u8, x: &[u8]) -
             let viewed = held.viewed;
             with_viewed(held, messages::perform(second, viewed, x))
         }
-        Subject::Security => perform_security(held, first, second, x),
+        Subject::Beacon => {
+            let security = held.security;
+            with_security(held, beacons::hear(security, x))
+        }
+        Subject::Security => {
+            let security = held.security;
+            with_security(held, beacons::perform(second, security, x))
+        }
         _ => keep(held, perform_leaf(first, x)),
     }
 }
@@ -337,13 +337,16 @@ fn read_line(text: &[u8]) -> Line {
 
 fn perform_line(held: Held, line: Line, kept: &mut [u8]) -> Step {
     let octets = line.octets;
+    let first = line.first;
+    let second = line.second;
     let all = &octets[..];
     let count = line.count;
     if all.len() < count {
         return keep(held, malformed());
     }
-    if shapes::fits(line.first, line.second, count) {
-        return perform(held, line.first, line.second, &all[0..count], kept);
+    let x = &all[0..count];
+    if shapes::fits(first, second, count) & shapes::in_range(first, second, x) {
+        return perform(held, first, second, x, kept);
     }
     keep(held, malformed())
 }
@@ -414,13 +417,7 @@ fn write_answer(before: Streams, answer: Answer, kept: &[u8], output: &mut [u8])
 
 // Whether the line is whole: a newline ends it, and the end of input a line that has characters.
 fn is_whole(streams: Streams, characters: usize) -> bool {
-    if streams.ends {
-        return true;
-    }
-    if streams.found {
-        return false;
-    }
-    0 < characters
+    streams.ends | (!streams.found & (0 < characters))
 }
 
 // Answers the line if it is whole.

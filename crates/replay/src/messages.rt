@@ -51,13 +51,13 @@ fn put_message(before: Answer, message: Message) -> Answer {
         Message::Capabilities(c) => put_capabilities(before, c),
         Message::Start(c) => put_choice(before, c),
         Message::PublicKey { x, y } => put_fields(before, x, y),
-        Message::InputComplete => before,
         Message::Confirmation { confirmation } => put_field(before, confirmation),
         Message::Random { random } => put_field(before, random),
         Message::Data { encrypted, mic } => put_fields(before, encrypted, mic),
-        Message::Complete => before,
         Message::Failed { code } => before.octet(code),
         Message::Refused(r) => refused(refusal_numbers::of_message(r)),
+        // Input Complete and Complete have none.
+        _ => before,
     }
 }
 
@@ -127,19 +127,12 @@ fn take(viewed: Viewed, wanted: Wanted) -> ViewStep {
     keep(after, field_answer(field))
 }
 
-fn take_long(viewed: Viewed, count: u16) -> ViewStep {
-    if count == 0 {
-        return keep(viewed, malformed());
-    }
-    take(viewed, Wanted::Long(count as usize))
-}
-
 pub(super) fn perform(operation: u8, viewed: Viewed, x: &[u8]) -> ViewStep {
     match operation {
         b'S' => set_view(viewed, x),
         b'D' => keep(viewed, show_view(viewed)),
         b'B' => take(viewed, Wanted::Octet),
         b'W' => take(viewed, Wanted::Pair),
-        _ => take_long(viewed, read16(x, 0)),
+        _ => take(viewed, Wanted::Long(read16(x, 0) as usize)),
     }
 }

@@ -66,11 +66,6 @@ fn link_of(x: &[u8]) -> Link {
     }
 }
 
-// Whether a use and three flags are in their ranges.
-fn is_record(x: &[u8]) -> bool {
-    (octet_at(x, 1) <= 2) & (octet_at(x, 7) <= 1) & (octet_at(x, 8) <= 1) & (octet_at(x, 10) <= 1)
-}
-
 // The place of a socket's record; 8 where there is no such socket.
 fn place_of(socket: u8) -> usize {
     if socket < 1 {
@@ -84,7 +79,7 @@ fn place_of(socket: u8) -> usize {
 
 fn set(links: [Link; 8], x: &[u8]) -> Records {
     let place = place_of(octet_at(x, 0));
-    if place < 8 && is_record(x) {
+    if place < 8 {
         let mut after = links;
         after[place] = link_of(x);
         return keep(after, done());

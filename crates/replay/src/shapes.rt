@@ -1,4 +1,6 @@
 // The operations, and how many octets of arguments each has, as docs/REPLAY.md lists them.
+use octets::octet_at;
+use octets::read16;
 
 fn fits_storage(second: u8, count: usize) -> bool {
     match second {
@@ -94,6 +96,31 @@ pub(super) fn fits(first: u8, second: u8, count: usize) -> bool {
         b'X' => fits_transfer(second, count),
         b'Z' => ((second == b'Z') | (second == b'H')) & (count == 0),
         _ => false,
+    }
+}
+
+fn is_flag(x: &[u8], at: usize) -> bool {
+    octet_at(x, at) <= 1
+}
+
+// Whether the uses and flags of a state that is set are in their ranges.
+fn is_state(first: u8, x: &[u8]) -> bool {
+    match first {
+        b'L' => (octet_at(x, 1) <= 2) & is_flag(x, 7) & is_flag(x, 8) & is_flag(x, 10),
+        b'X' => is_flag(x, 0) & is_flag(x, 1),
+        b'F' => is_flag(x, 0),
+        b'K' => is_flag(x, 5),
+        _ => true,
+    }
+}
+
+// Whether the arguments of an operation are in their ranges; a socket, a place and a lent count are looked at where they are used.
+pub(super) fn in_range(first: u8, second: u8, x: &[u8]) -> bool {
+    match second {
+        b'S' => is_state(first, x),
+        b'R' => (first != b'B') | (is_flag(x, 0) & is_flag(x, 1) & is_flag(x, 2)),
+        b'F' => (first != b'V') | (read16(x, 0) != 0),
+        _ => true,
     }
 }
 

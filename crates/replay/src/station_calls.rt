@@ -49,23 +49,12 @@ pub(super) fn receive(links: [Link; 8], x: &[u8], area: &mut [u8]) -> Records {
     after(station::receive(links, area, behind(x, 2)))
 }
 
-fn open(links: [Link; 8], x: &[u8]) -> Records {
-    after(local_calls::open(links, Socket(octet_at(x, 0)), read32(x, 1)))
-}
-
-fn send(links: [Link; 8], x: &[u8]) -> Records {
-    after(local_calls::send(links, Socket(octet_at(x, 0)), read16(x, 1) as usize))
-}
-
-fn close(links: [Link; 8], x: &[u8]) -> Records {
-    after(local_calls::close(links, Socket(octet_at(x, 0))))
-}
-
 // The local calls, by the second letter.
 pub(super) fn perform(operation: u8, links: [Link; 8], x: &[u8]) -> Records {
+    let socket = Socket(octet_at(x, 0));
     match operation {
-        b'P' => open(links, x),
-        b'N' => send(links, x),
-        _ => close(links, x),
+        b'P' => after(local_calls::open(links, socket, read32(x, 1))),
+        b'N' => after(local_calls::send(links, socket, read16(x, 1) as usize)),
+        _ => after(local_calls::close(links, socket)),
     }
 }

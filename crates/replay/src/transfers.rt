@@ -2,7 +2,6 @@
 use crate::answers::Answer;
 use crate::answers::done;
 use crate::answers::letter;
-use crate::answers::malformed;
 use crate::answers::refused;
 use crate::shapes::behind;
 use octets::octet_at;
@@ -37,16 +36,13 @@ fn half_of(x: &[u8]) -> HalfTransfer {
     }
 }
 
-fn set(transfer: Transfer, x: &[u8]) -> TransferStep {
-    if (octet_at(x, 0) <= 1) & (octet_at(x, 1) <= 1) {
-        let half = half_of(x);
-        let after = Transfer {
-            connected: octet_at(x, 0) == 1,
-            half: half,
-        };
-        return keep(after, done());
-    }
-    keep(transfer, malformed())
+fn set(x: &[u8]) -> TransferStep {
+    let half = half_of(x);
+    let after = Transfer {
+        connected: octet_at(x, 0) == 1,
+        half: half,
+    };
+    keep(after, done())
 }
 
 pub(super) fn show(transfer: Transfer) -> Answer {
@@ -93,7 +89,7 @@ fn count(x: &[u8]) -> Answer {
 
 pub(super) fn perform(operation: u8, transfer: Transfer, x: &[u8]) -> TransferStep {
     match operation {
-        b'S' => set(transfer, x),
+        b'S' => set(x),
         b'D' => keep(transfer, show(transfer)),
         b'C' => after_connecting(proxy_connection::connect(transfer)),
         b'X' => after_connecting(proxy_connection::disconnect(transfer)),

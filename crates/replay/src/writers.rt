@@ -10,30 +10,23 @@ use octets::read16;
 use octets::read32;
 use transactions::TransactionNumber;
 
-fn segment(x: &[u8], output: &mut [u8]) -> Written {
-    let number = TransactionNumber(octet_at(x, 6));
-    let index = octet_at(x, 7) as usize;
-    pb_adv_writing::write_segment(read32(x, 2), number, behind(x, 8), index, output)
-}
-
-fn piece(x: &[u8], output: &mut [u8]) -> Written {
-    let size = read16(x, 2) as usize;
-    let index = octet_at(x, 5) as usize;
-    proxy_writing::write_piece(size, octet_at(x, 4), behind(x, 6), index, output)
-}
-
 fn written_by(second: u8, x: &[u8], output: &mut [u8]) -> Written {
+    let id = read32(x, 2);
+    let number = TransactionNumber(octet_at(x, 6));
     match second {
-        b'S' => segment(x, output),
-        b'K' => pb_adv_writing::write_acknowledgement(
-            read32(x, 2),
-            TransactionNumber(octet_at(x, 6)),
-            output,
-        ),
-        b'O' => control_writing::write_open(read32(x, 2), behind(x, 6), output),
-        b'A' => control_writing::write_ack(read32(x, 2), output),
-        b'C' => control_writing::write_close(read32(x, 2), octet_at(x, 6), output),
-        _ => piece(x, output),
+        b'S' => {
+            let index = octet_at(x, 7) as usize;
+            pb_adv_writing::write_segment(id, number, behind(x, 8), index, output)
+        }
+        b'K' => pb_adv_writing::write_acknowledgement(id, number, output),
+        b'O' => control_writing::write_open(id, behind(x, 6), output),
+        b'A' => control_writing::write_ack(id, output),
+        b'C' => control_writing::write_close(id, octet_at(x, 6), output),
+        _ => {
+            let size = read16(x, 2) as usize;
+            let index = octet_at(x, 5) as usize;
+            proxy_writing::write_piece(size, octet_at(x, 4), behind(x, 6), index, output)
+        }
     }
 }
 
