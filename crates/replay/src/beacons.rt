@@ -111,7 +111,7 @@ fn hearing_of(x: &[u8]) -> Hearing {
     }
 }
 
-pub(super) fn hear(state: SecurityState, x: &[u8]) -> StateStep {
+fn hear(state: SecurityState, x: &[u8]) -> StateStep {
     let octets = behind(x, 3);
     after_hearing(beacon::hear_beacon(state, hearing_of(x), octets), octets)
 }
@@ -120,6 +120,7 @@ pub(super) fn perform(operation: u8, state: SecurityState, x: &[u8]) -> StateSte
     match operation {
         b'S' => set(x),
         b'D' => keep(state, show(state)),
+        b'R' => hear(state, x),
         b'I' => after_hearing(beacon::start_key_refresh(state), x),
         _ => after_hearing(beacon::set_phase(state, octet_at(x, 0)), x),
     }
