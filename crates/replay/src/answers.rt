@@ -41,7 +41,7 @@ pub(super) fn refused(number: u8) -> Answer {
 
 impl Answer {
     // A field of 2 digits.
-    pub fn octet(self, number: u8) -> Answer {
+    pub(super) fn octet(self, number: u8) -> Answer {
         let at = self.count as usize;
         let mut after = self;
         if at < MOST {
@@ -53,30 +53,30 @@ impl Answer {
         after
     }
 
-    pub fn flag(self, flag: bool) -> Answer {
+    pub(super) fn flag(self, flag: bool) -> Answer {
         if flag { self.octet(1) } else { self.octet(0) }
     }
 
     // A field of 4 digits.
-    pub fn pair(self, number: u16) -> Answer {
+    pub(super) fn pair(self, number: u16) -> Answer {
         self.octet((number / 256) as u8).octet((number % 256) as u8)
     }
 
     // A field of 8 digits.
-    pub fn long(self, number: u32) -> Answer {
+    pub(super) fn long(self, number: u32) -> Answer {
         self.pair((number / 65536) as u16)
             .pair((number % 65536) as u16)
     }
 
     // Octets of the storages, behind all fields.
-    pub fn show(self, from: usize, count: u16) -> Answer {
+    pub(super) fn show(self, from: usize, count: u16) -> Answer {
         let mut after = self;
         after.from = from;
         after.shown = count;
         after
     }
 
-    pub fn outcome(self) -> Outcome {
+    pub(super) fn outcome(self) -> Outcome {
         let first = self.first;
         let octets = self.octets;
         match first {
@@ -91,7 +91,7 @@ impl Answer {
     }
 
     // The answer's line.
-    pub fn write(self, storages: &[u8], output: &mut [u8]) -> Written {
+    pub(super) fn write(self, storages: &[u8], output: &mut [u8]) -> Written {
         let mut values = [0u8; 4096];
         let octets = self.octets;
         octet_parts::copy(&mut values, 0, &octets, 0, MOST);

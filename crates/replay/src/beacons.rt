@@ -111,7 +111,7 @@ fn hearing_of(x: &[u8]) -> Hearing {
     }
 }
 
-pub(super) fn hear(state: SecurityState, x: &[u8]) -> StateStep {
+fn hear(state: SecurityState, x: &[u8]) -> StateStep {
     let octets = behind(x, 3);
     after_hearing(
         beacon_hearing::hear_beacon(state, hearing_of(x), octets),
@@ -123,6 +123,7 @@ pub(super) fn perform(operation: u8, state: SecurityState, x: &[u8]) -> StateSte
     match operation {
         b'S' => set(x),
         b'D' => keep(state, show(state)),
+        b'R' => hear(state, x),
         b'I' => after_hearing(key_refresh::start_key_refresh(state), x),
         _ => after_hearing(key_refresh::set_phase(state, octet_at(x, 0)), x),
     }

@@ -175,13 +175,11 @@ enum Subject {
     View,
     // All that is kept.
     Whole,
+    // The link records, and the local calls of the station.
     Links,
-    // The local calls of the station.
-    Station,
     Transfer,
     Filter,
-    // Reading a beacon.
-    Beacon,
+    // Beacons, the key and IV state.
     Security,
     // Nothing that is kept: the check octet, SegN, a provisioning message.
     Leaf,
@@ -202,14 +200,14 @@ fn transfer_subject(second: u8) -> Subject {
 fn subject_of(first: u8, second: u8) -> Subject {
     match first {
         b'A' => Subject::Storage,
-        b'B' => if_second(second, b'R', Subject::Beacon, Subject::Storage),
-        b'C' => if_second(second, b'K', Subject::Leaf, Subject::Station),
+        b'B' => if_second(second, b'R', Subject::Security, Subject::Storage),
+        b'C' => if_second(second, b'K', Subject::Leaf, Subject::Links),
         b'F' => Subject::Filter,
         b'K' => Subject::Security,
         b'L' => Subject::Links,
-        b'O' => if_second(second, b'P', Subject::Station, Subject::Storage),
+        b'O' => if_second(second, b'P', Subject::Links, Subject::Storage),
         b'R' => Subject::Frame,
-        b'S' => if_second(second, b'G', Subject::Leaf, Subject::Station),
+        b'S' => if_second(second, b'G', Subject::Leaf, Subject::Links),
         b'V' => Subject::View,
         b'W' => Subject::Output,
         b'X' => transfer_subject(second),
@@ -243,10 +241,6 @@ fn perform_bare(held: Held, subject: Subject, first: u8, second: u8, x: &[u8]) -
             let links = held.links;
             with_links(held, records::perform(second, links, x))
         }
-        Subject::Station => {
-            let links = held.links;
-            with_links(held, station_calls::perform(second, links, x))
-        }
         Subject::Transfer => {
             let transfer = held.transfer;
             with_transfer(held, transfers::perform(second, transfer, x))
@@ -258,10 +252,6 @@ fn perform_bare(held: Held, subject: Subject, first: u8, second: u8, x: &[u8]) -
         Subject::View => {
             let viewed = held.viewed;
             with_viewed(held, messages::perform(second, viewed, x))
-        }
-        Subject::Beacon => {
-            let security = held.security;
-            with_security(held, beacons::hear(security, x))
         }
         Subject::Security => {
             let security = held.security;
@@ -351,14 +341,6 @@ fn perform_line(held: Held, line: Line, kept: &mut [u8]) -> Step {
     keep(held, malformed())
 }
 
-// The characters of a line behind the storages are read, and its operation performed.
-fn perform_characters(held: Held, characters: usize, kept: &mut [u8]) -> Step
-    requires { ⌜ 17408 + characters ≤ length (now kept) ⌝ }
-{
-    let line = read_line(&kept[LINE..LINE + characters]);
-    perform_line(held, line, kept)
-}
-
 // How far the program has come. The octets of the storages and of the line are kept in a buffer.
 struct Progress {
     streams: Streams,
@@ -415,28 +397,41 @@ fn write_answer(before: Streams, answer: Answer, kept: &[u8], output: &mut [u8])
     lines::add_waiting(streams, output, n)
 }
 
+// The state after an operation, and its answer written.
+fn write_step(progress: Progress, step: Step, kept: &[u8], output: &mut [u8]) -> Progress {
+    let before = progress.streams;
+    let held = step.held;
+    let answer = step.answer;
+    let streams = write_answer(before, answer, kept, output);
+    Progress {
+        streams: streams,
+        characters: 0,
+        held: held,
+    }
+}
+
+// The line behind the storages is read, and its operation performed.
+fn perform_characters(progress: Progress, kept: &mut [u8]) -> Step
+    requires { ⌜ 17408 + progress .characters ≤ length (now kept) ⌝ }
+{
+    let held = progress.held;
+    let line = read_line(&kept[LINE..LINE + progress.characters]);
+    perform_line(held, line, kept)
+}
+
 // Whether the line is whole: a newline ends it, and the end of input a line that has characters.
-fn is_whole(streams: Streams, characters: usize) -> bool {
-    streams.ends | (!streams.found & (0 < characters))
+fn is_whole(progress: Progress) -> bool {
+    let streams = progress.streams;
+    streams.ends | (!streams.found & (0 < progress.characters))
 }
 
 // Answers the line if it is whole.
 fn answer_line(progress: Progress, kept: &mut [u8], output: &mut [u8]) -> Progress
     requires { ⌜ 17408 + progress .characters ≤ length (now kept) ⌝ }
 {
-    let before = progress.streams;
-    let held = progress.held;
-    let characters = progress.characters;
-    if is_whole(before, characters) {
-        let step = perform_characters(held, characters, kept);
-        let after = step.held;
-        let answer = step.answer;
-        let streams = write_answer(before, answer, kept, output);
-        return Progress {
-            streams: streams,
-            characters: 0,
-            held: after,
-        };
+    if is_whole(progress) {
+        let step = perform_characters(progress, kept);
+        return write_step(progress, step, kept, output);
     }
     progress
 }

@@ -4,6 +4,7 @@ use crate::answers::Answer;
 use crate::answers::done;
 use crate::answers::letter;
 use crate::answers::malformed;
+use crate::station_calls;
 use links::HalfMessage;
 use links::HalfReceived;
 use links::LastDelivered;
@@ -152,10 +153,12 @@ pub(super) fn show_all(links: [Link; 8]) -> Answer {
     after
 }
 
+// The records set and shown, and the local calls of the station, by the second letter.
 pub(super) fn perform(operation: u8, links: [Link; 8], x: &[u8]) -> Records {
     match operation {
         b'S' => set(links, x),
         b'D' => keep(links, show(links, x)),
-        _ => keep(links, show_all(links)),
+        b'A' => keep(links, show_all(links)),
+        _ => station_calls::perform(operation, links, x),
     }
 }
