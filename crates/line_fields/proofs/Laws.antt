@@ -7,23 +7,21 @@ use mathlib.Core.Bool.{true, false, cond}
 use mathlib.Core.List.{List, [], _∷_, _++_, append-assoc}
 use mathlib.Core.Path.{_≡_, refl, sym, ap, _∙_}
 use lib.Dec.{leb, eqb, ltb}
-use lib.ListN.{length, take, drop, getD, length-append, length-drop, drop-of-length-le}
-use lib.Seq.{drop-cons, take-length, take-all}
+use lib.ListN.{length, take, drop, getD, replicate, length-append, length-drop, drop-of-length-le}
+use lib.Seq.{drop-cons, take-length, take-all, length-take-le}
 use borrow.Author.Tests.{le-leb, lt-leb, lt-ltb, eq-eqb, ne-eqb, leb-true, leb-false, eqb-true, eqb-false}
-use Rattle.octets.specs.Parts.{write, copyFits, copied}
+use Rattle.octets.specs.Parts.{part, write, copyFits, copied}
 use Rattle.octets.proofs.Parts.{copied-part, write-front, write-length, write-next, write-nothing}
 use Rattle.octets.proofs.Tests.{cases}
 use Rattle.hex.specs.Hex.{textOf, encodedOutput}
 use Rattle.hex.proofs.Laws.{length-text}
 use Rattle.io.specs.Digits.{glyph, digits, Fewest}
 use Rattle.octets.specs.Writing.{outputAfter}
-use Rattle.line_fields.specs.Lines.{digitsUpTo, decimalOf, hexadecimalOf, fieldText, endBefore, lineOf, textOutput}
+use Rattle.line_fields.specs.Lines.{digitsUpTo, decimalOf, hexadecimalOf, fieldText, endBefore, lineOf, textOutput, Holds}
+use Rattle.line_fields.specs.declared.Characters.{Characters}
 use Rattle.line_fields.specs.declared.Field.{Field}
 
 -- ---- a text copied whole
-
-pub copied-whole : (l : List ℕ) (at : ℕ) (x : List ℕ) → at + length x ≤ length l → copied l at x 0 (length x) ≡ write l at x
-copied-whole l at x h = copied-part l at x 0 (length x) h (omega arith) ∙ rw (take-length x)
 
 module _ (text output : List ℕ) where
   pub text-fits : copyFits output 0 text 0 (length text) ≡ leb (length text) (length output)
@@ -35,6 +33,20 @@ module _ (text output : List ℕ) where
   unfolding copied outputAfter
   text-copied = rw (text-fits, take-length text)
 
+-- a text written at the start of a room
+pub written-front : (room d : List ℕ) (n : ℕ) → n ≡ length d → length d ≤ length room → take n (write room 0 d) ≡ d
+written-front room d n e h = rw e (rw zero-add at (write-front room 0 d (omega arith)))
+
+-- a part copied to the start of a room
+pub copied-front : (room x : List ℕ) (from n : ℕ) → n ≤ length room → from + n ≤ length x → take n (copied room 0 x from n) ≡ part x from n
+copied-front room x from n h k =
+    let long : length (part x from n) ≡ n = length-take-le n (drop from x) (omega (arith, length-drop from x)) in
+    rw (copied-part room 0 x from n (omega arith) k) (written-front room (part x from n) n (sym long) (omega arith))
+
+-- so many characters as the text has
+pub holds-long : (c : Characters) (text : List ℕ) → length (c .text) ≡ 20 → Holds c text → c .length ≡ length text
+holds-long c text room h = sym (length-take-le (c .length) (c .text) (omega (arith, h .1))) ∙ ap length (h .0)
+
 -- `0x`, and the digits of octets behind it
 pub hexadecimal-put : (octets line : List ℕ) (at : ℕ) → at + 2 + 2 * length octets ≤ length line
     → encodedOutput octets (write line at (48 ∷ 120 ∷ [])) (at + 2) ≡ write line at (hexadecimalOf octets)
@@ -44,6 +56,15 @@ hexadecimal-put octets line at h =
     let long = write-length line at (48 ∷ 120 ∷ []) (omega arith) in
     rw (le-leb (at + 2) (length l) (omega arith), le-leb (2 * length octets) (length l - (at + 2)) (omega arith))
     (write-next line at (48 ∷ 120 ∷ []) (textOf octets) (omega arith))
+
+abbrev room : List ℕ
+room = replicate 20 0
+
+pub hexadecimal-shown : (octets : List ℕ) → length octets ≤ 4 → take (2 + 2 * length octets) (encodedOutput octets (48 ∷ 120 ∷ replicate 18 0) 2) ≡ hexadecimalOf octets
+unfolding write
+hexadecimal-shown octets h =
+    rw (hexadecimal-put octets room 0 (omega arith))
+    (written-front room (hexadecimalOf octets) (2 + 2 * length octets) (omega (arith, length-text octets)) (omega (arith, length-text octets)))
 
 -- ---- decimal digits
 

@@ -1,20 +1,22 @@
 -- A line of text: fields with a comma between them and a newline at the end. Characters are ASCII octets.
 use Prim.Native.Char.{code}
-use Prim.Native.Nat.{ℕ, zero, suc, _+_, _/_, _%_, _≤_}
+use Prim.Native.Nat.{ℕ, zero, suc, _+_, _*_, _/_, _%_, _≤_}
 use Prim.Native.String.{String, charAt, len}
 use mathlib.Core.Bool.{true, cond}
 use mathlib.Core.List.{List, [], _∷_, _++_}
 use mathlib.Core.Path.{_≡_}
 use lib.Dec.{eqb}
-use lib.ListN.{length}
+use lib.ListN.{length, take}
 use Rattle.octets.specs.Numbers.{octets16, octets32}
-use Rattle.octets.specs.Parts.{write}
+use Rattle.octets.specs.Parts.{part}
 use Rattle.octets.specs.Told.{Told, refused, answered}
 use Rattle.octets.specs.Writing.{written, outputAfter}
 use Rattle.octets.specs.declared.Written.{Written}
 use Rattle.hex.specs.Hex.{textOf}
 use Rattle.provisioning.specs.Message.{told as messageTold}
 use Rattle.provisioning.specs.declared.Message.{Message}
+use Rattle.line_fields.specs.declared.Characters.{Characters}
+use Rattle.line_fields.specs.declared.NameRow.{NameRow}
 use Rattle.line_fields.specs.declared.Field.{Field}
 use Rattle.line_fields.specs.declared.Field.the-variants as F
 
@@ -85,10 +87,20 @@ textOutput text output = outputAfter true text output
 
 -- ---- a field in a line
 
+-- the names, in rows of 14 characters by the type of the message
+abbrev pub names : List ℕ
+names = ascii "Invite        Capabilities  Start         Public Key    Input CompleteConfirmation  Random        Data          Complete      Failed        "
+
+abbrev pub Names : NameRow → Message → Type 0
+Names r message = (part names (14 * r .row) (r .length) ≡ nameOf message) × (r .row ≤ 9) × (r .length ≤ 14)
+
+-- a text of at most 20 characters
+abbrev pub textIn : Characters → List ℕ
+textIn c = take (c .length) (c .text)
+
+abbrev pub Holds : Characters → List ℕ → Type 0
+Holds c text = (textIn c ≡ text) × (c .length ≤ 20)
+
 -- room for any field and what stands behind it
 abbrev pub FieldAsks : List ℕ → ℕ → Type 0
 FieldAsks line at = at + 21 ≤ length line
-
--- what the writing of a field's text at a place does: the place after it, the line, and that no field is longer than 20 characters
-abbrev pub FieldPut : List ℕ → ℕ → List ℕ → ℕ → List ℕ → Type 0
-FieldPut line at text next after = (next ≡ at + length text) × (after ≡ write line at text) × (next ≤ at + 20)

@@ -4,12 +4,13 @@ use provisioning::Message;
 ghost use mathlib.Core.Bool.{cond};
 ghost use mathlib.Core.List.{[], _∷_, _++_};
 ghost use mathlib.Core.Path.{_≡_};
-ghost use Prim.Native.Nat.{_+_, _≤_, min};
+ghost use Prim.Native.Nat.{_+_, _*_, _-_, _≤_, min};
 ghost use lib.Dec.{leb};
-ghost use lib.ListN.{length, take};
-ghost use Rattle.octets.specs.Parts.{write};
-ghost use Rattle.line_fields.specs.Lines.{decimalOf, hexadecimalOf, nameOf, fieldText, lineOf, textWritten, textOutput, FieldAsks, FieldPut};
-ghost use Rattle.line_fields.specs.declared.Field.the-variants.{Number, Pair, Refusal};
+ghost use lib.ListN.{length, take, drop};
+ghost use Rattle.octets.specs.Numbers.{octets32};
+ghost use Rattle.octets.specs.Parts.{part, write};
+ghost use Rattle.line_fields.specs.Lines.{decimalOf, hexadecimalOf, fieldText, lineOf, textWritten, textOutput, names, Names, textIn, Holds, FieldAsks};
+ghost use Rattle.line_fields.specs.declared.Field.the-variants.{Mark, Refusal};
 
 // A field of a line.
 pub enum Field {
@@ -24,6 +25,18 @@ pub enum Field {
     Refusal(u8),
     // The name of a message.
     Name(Message),
+}
+
+// The text of a field, at most 20 characters: so many at the start.
+pub struct Characters {
+    pub text: [u8; 20],
+    pub length: usize,
+}
+
+// Where the name of a message stands among the names, in rows of 14 characters.
+pub struct NameRow {
+    pub row: usize,
+    pub length: usize,
 }
 
 // No line is longer: eleven fields of at most 20 characters, and the comma or newline behind each.
@@ -41,98 +54,121 @@ pub fn write_text(text: &[u8], output: &mut [u8]) -> Written
     }
 }
 
-// A text at a place of a line; the place after it.
-fn put_text(line: &mut [u8], at: usize, text: &[u8]) -> usize
-    requires { ⌜ at + length (now text) ≤ length (now line) ⌝ }
-    ensures { λ r. ⌜ (r ≡ at + length (now (text .entry)))
-        × (now (line .exit) ≡ write (now (line .entry)) at (now (text .entry))) ⌝ }
+// One character.
+fn mark_text(character: u8) -> Characters
+    ensures { λ r. ⌜ Holds r (fieldText (Mark character)) ⌝ }
 {
-    octet_parts::copy(line, at, text, 0, text.len());
-    at + text.len()
-}
-
-fn put_decimal(line: &mut [u8], at: usize, value: u64) -> usize
-    requires { ⌜ FieldAsks (now line) at ⌝ }
-    ensures { λ r. ⌜ FieldPut (now (line .entry)) at (decimalOf value) r (now (line .exit)) ⌝ }
-{
-    let mut digits = [0u8; 20];
-    let n = io::decimal(value, &mut digits);
-    put_text(line, at, &digits[..n])
-}
-
-fn put_hexadecimal(line: &mut [u8], at: usize, octets: &[u8]) -> usize
-    requires { ⌜ (length (now octets) ≤ 4) × FieldAsks (now line) at ⌝ }
-    ensures { λ r. ⌜ FieldPut (now (line .entry)) at (hexadecimalOf (now (octets .entry))) r (now (line .exit)) ⌝ }
-{
-    let digits = put_text(line, at, b"0x");
-    hex::encode(octets, line, digits);
-    digits + 2 * octets.len()
-}
-
-fn put_name(line: &mut [u8], at: usize, message: Message) -> usize
-    requires { ⌜ FieldAsks (now line) at ⌝ }
-    ensures { λ r. ⌜ FieldPut (now (line .entry)) at (nameOf message) r (now (line .exit)) ⌝ }
-{
-    match message {
-        Message::Invite { attention: _ } => put_text(line, at, b"Invite"),
-        Message::Capabilities(_) => put_text(line, at, b"Capabilities"),
-        Message::Start(_) => put_text(line, at, b"Start"),
-        Message::PublicKey { x: _, y: _ } => put_text(line, at, b"Public Key"),
-        Message::InputComplete => put_text(line, at, b"Input Complete"),
-        Message::Confirmation { confirmation: _ } => put_text(line, at, b"Confirmation"),
-        Message::Random { random: _ } => put_text(line, at, b"Random"),
-        Message::Data {
-            encrypted: _,
-            mic: _,
-        } => put_text(line, at, b"Data"),
-        Message::Complete => put_text(line, at, b"Complete"),
-        Message::Failed { code: _ } => put_text(line, at, b"Failed"),
-        Message::Refused(_) => at,
+    let mut text = [0u8; 20];
+    text[0] = character;
+    Characters {
+        text: text,
+        length: 1,
     }
 }
 
-fn put_number(line: &mut [u8], at: usize, value: u32) -> usize
-    requires { ⌜ FieldAsks (now line) at ⌝ }
-    ensures { λ r. ⌜ FieldPut (now (line .entry)) at (fieldText (Number value)) r (now (line .exit)) ⌝ }
+fn decimal_text(value: u64) -> Characters
+    ensures { λ r. ⌜ Holds r (decimalOf value) ⌝ }
 {
-    let octets = [
+    let mut text = [0u8; 20];
+    let length = io::decimal(value, &mut text);
+    Characters {
+        text: text,
+        length: length,
+    }
+}
+
+fn four_octets(value: u32) -> [u8; 4]
+    ensures { λ r. ⌜ r ≡ octets32 value ⌝ }
+{
+    [
         (value / 16777216) as u8,
         (value / 65536 % 256) as u8,
         (value / 256 % 256) as u8,
         (value % 256) as u8,
-    ];
-    put_hexadecimal(line, at, &octets)
+    ]
 }
 
-fn put_pair(line: &mut [u8], at: usize, value: u16) -> usize
-    requires { ⌜ FieldAsks (now line) at ⌝ }
-    ensures { λ r. ⌜ FieldPut (now (line .entry)) at (fieldText (Pair value)) r (now (line .exit)) ⌝ }
+// The last octets of a number, so many of four.
+fn hexadecimal_text(value: u32, count: usize) -> Characters
+    requires { ⌜ count ≤ 4 ⌝ }
+    ensures { λ r. ⌜ Holds r (hexadecimalOf (drop (4 - count) (octets32 value))) ⌝ }
 {
-    let octets = [(value / 256) as u8, (value % 256) as u8];
-    put_hexadecimal(line, at, &octets)
+    let octets = four_octets(value);
+    let first = 4 - count;
+    let mut text = [0u8; 20];
+    text[0] = b'0';
+    text[1] = b'x';
+    hex::encode(&octets[first..], &mut text, 2);
+    Characters {
+        text: text,
+        length: 2 + 2 * count,
+    }
 }
 
-fn put_refusal(line: &mut [u8], at: usize, refusal: u8) -> usize
-    requires { ⌜ FieldAsks (now line) at ⌝ }
-    ensures { λ r. ⌜ FieldPut (now (line .entry)) at (fieldText (Refusal refusal)) r (now (line .exit)) ⌝ }
+fn refusal_text(refusal: u8) -> Characters
+    ensures { λ r. ⌜ Holds r (fieldText (Refusal refusal)) ⌝ }
 {
-    let text = [b'!', 48 + refusal / 10 % 10, 48 + refusal % 10];
-    put_text(line, at, &text)
+    let mut text = [0u8; 20];
+    text[0] = b'!';
+    text[1] = 48 + refusal / 10 % 10;
+    text[2] = 48 + refusal % 10;
+    Characters {
+        text: text,
+        length: 3,
+    }
 }
 
-// The text of a field at a place of a line; the place after it.
-fn put_field(line: &mut [u8], at: usize, field: Field) -> usize
-    requires { ⌜ FieldAsks (now line) at ⌝ }
-    ensures { λ r. ⌜ FieldPut (now (line .entry)) at (fieldText field) r (now (line .exit)) ⌝ }
+// The row of a message's name, which is the message's type, and the name's length; a refusal has no name.
+fn name_row(message: Message) -> NameRow
+    ensures { λ r. ⌜ Names r message ⌝ }
+{
+    match message {
+        Message::Invite { attention: _ } => NameRow { row: 0, length: 6 },
+        Message::Capabilities(_) => NameRow { row: 1, length: 12 },
+        Message::Start(_) => NameRow { row: 2, length: 5 },
+        Message::PublicKey { x: _, y: _ } => NameRow { row: 3, length: 10 },
+        Message::InputComplete => NameRow { row: 4, length: 14 },
+        Message::Confirmation { confirmation: _ } => NameRow { row: 5, length: 12 },
+        Message::Random { random: _ } => NameRow { row: 6, length: 6 },
+        Message::Data {
+            encrypted: _,
+            mic: _,
+        } => NameRow { row: 7, length: 4 },
+        Message::Complete => NameRow { row: 8, length: 8 },
+        Message::Failed { code: _ } => NameRow { row: 9, length: 6 },
+        Message::Refused(_) => NameRow { row: 0, length: 0 },
+    }
+}
+
+fn name_text(name: NameRow) -> Characters
+    requires { ⌜ (name .row ≤ 9) × (name .length ≤ 14) ⌝ }
+    ensures { λ r. ⌜ Holds r (part names (14 * name .row) (name .length)) ⌝ }
+{
+    let mut text = [0u8; 20];
+    octet_parts::copy(
+        &mut text,
+        0,
+        b"Invite        Capabilities  Start         Public Key    Input CompleteConfirmation  Random        Data          Complete      Failed        ",
+        14 * name.row,
+        name.length,
+    );
+    Characters {
+        text: text,
+        length: name.length,
+    }
+}
+
+fn field_text(field: Field) -> Characters
+    ensures { λ r. ⌜ Holds r (fieldText field) ⌝ }
 {
     match field {
-        Field::Mark(character) => put_text(line, at, &[character]),
-        Field::Decimal(value) => put_decimal(line, at, value),
-        Field::Octet(value) => put_hexadecimal(line, at, &[value]),
-        Field::Pair(value) => put_pair(line, at, value),
-        Field::Number(value) => put_number(line, at, value),
-        Field::Refusal(refusal) => put_refusal(line, at, refusal),
-        Field::Name(message) => put_name(line, at, message),
+        Field::Mark(character) => mark_text(character),
+        Field::Decimal(value) => decimal_text(value),
+        Field::Octet(value) => hexadecimal_text(value as u32, 1),
+        Field::Pair(value) => hexadecimal_text(value as u32, 2),
+        Field::Number(value) => hexadecimal_text(value, 4),
+        Field::Refusal(refusal) => refusal_text(refusal),
+        Field::Name(message) => name_text(name_row(message)),
     }
 }
 
@@ -144,16 +180,17 @@ fn end_of(index: usize, count: usize) -> u8
     if count <= index + 1 { b'\n' } else { b',' }
 }
 
-// A field and what stands behind it.
-fn put_ended(line: &mut [u8], at: usize, field: Field, end: u8) -> usize
-    requires { ⌜ FieldAsks (now line) at ⌝ }
-    ensures { λ r. ⌜ (r ≡ at + length (fieldText field ++ (end ∷ [])))
-        × (now (line .exit) ≡ write (now (line .entry)) at (fieldText field ++ (end ∷ [])))
-        × (r ≤ at + 21) ⌝ }
+// A text and what stands behind it, at a place of a line; the place after it.
+fn put_ended(line: &mut [u8], at: usize, characters: Characters, end: u8) -> usize
+    requires { ⌜ FieldAsks (now line) at × (characters .length ≤ 20) ⌝ }
+    ensures { λ r. ⌜ (r ≡ at + characters .length + 1)
+        × (now (line .exit) ≡ write (now (line .entry)) at (textIn characters ++ (end ∷ []))) ⌝ }
 {
-    let next = put_field(line, at, field);
-    line[next] = end;
-    next + 1
+    let text = characters.text;
+    let length = characters.length;
+    octet_parts::copy(line, at, &text, 0, length);
+    line[at + length] = end;
+    at + length + 1
 }
 
 // Eleven, where a count is more.
@@ -170,12 +207,12 @@ pub fn write_fields(fields: [Field; 11], count: usize, output: &mut [u8]) -> Wri
         × (length (lineOf (take count fields)) ≤ 231) ⌝ }
 {
     let last = at_most_eleven(count);
-    let mut line = [0u8; 231];
+    let mut line = [0u8; MOST];
     let mut at = 0;
     let mut i = 0;
     while i < last {
         let field = fields[i];
-        at = put_ended(&mut line, at, field, end_of(i, last));
+        at = put_ended(&mut line, at, field_text(field), end_of(i, last));
         i += 1;
     }
     write_text(&line[..at], output)

@@ -1,12 +1,13 @@
 -- The loop's invariant: with the fields that are left behind what is written, the line is whole (`Begun`); `begun-next` is its step.
-use Prim.Native.Nat.{_*_, _-_, _≤_}
+use Prim.Native.Nat.{_+_, _*_, _-_, _≤_}
+use mathlib.Core.List.{[], _∷_, _++_}
 use borrow.Author.Needs.{needs}
-use lib.ListN.{length, take}
+use lib.ListN.{length, take, getD, length-append}
 use lib.Seq.{getD-take, length-take-le}
 use mathlib.Core.Path.{_≡_, refl, sym, _∙_}
 use native.Mathlib.Omega.{arith}
-use Rattle.line_fields.proofs.Laws.{Begun, begun, begun-next, begun-all, take-few}
-use Rattle.line_fields.specs.Lines.{lineOf}
+use Rattle.line_fields.proofs.Laws.{Begun, begun, begun-next, begun-all, take-few, holds-long}
+use Rattle.line_fields.specs.Lines.{fieldText, lineOf}
 use Rattle.line_fields.specs.declared.Field.the-variants.{Mark}
 use Rattle.line_fields.proofs.write_fields.Statement.{statement}
 use Rattle.line_fields.proofs.write_fields.Tie as tie
@@ -46,11 +47,16 @@ array-copy-out-field c = search needs
 slice-aggregate-put-ended : tie.Need-slice-aggregate-put-ended Inv-loop μ-loop
 slice-aggregate-put-ended c = search needs
 
+field-text-requires : tie.Need-field-text-requires Inv-loop μ-loop
+field-text-requires c κs = search needs
+
 end-of-requires : tie.Need-end-of-requires Inv-loop μ-loop
 end-of-requires c κs = search needs
 
 put-ended-requires : tie.Need-put-ended-requires Inv-loop μ-loop
-put-ended-requires c κs = search needs
+put-ended-requires c κs =
+    let l = c .before .before .before .before .before .loop in
+    (omega (arith, l .inv), c .before .field-text .ensures .1)
 
 add-i : tie.Need-add-i Inv-loop μ-loop
 add-i c = search needs
@@ -61,19 +67,25 @@ loop-less c = search needs
 loop-again : tie.Need-loop-again Inv-loop μ-loop
 loop-again c =
     let w = c .before .put-ended in
-    let l = c .before .before .before .before .before .before .loop in
-    let last = c .before .before .before .before .before .before .before .at-most-eleven .result in
-    let fields = c .before .before .before .before .before .before .before .before .before .args .t1 in
+    let f = c .before .before .before .field-text in
+    let l = c .before .before .before .before .before .before .before .loop in
+    let last = c .before .before .before .before .before .before .before .before .at-most-eleven .result in
+    let fields = c .before .before .before .before .before .before .before .before .before .before .args .t1 in
+    let field = getD fields (l .i) (Mark 0) in
     let n : length (take last fields) ≡ last = length-take-le last fields (omega (arith, l .inv)) in
     let here = getD-take last fields (l .i) (Mark 0) (omega arith) in
-    let end = c .before .before .end-of .ensures in (
+    let end = c .before .before .end-of in
+    let room : length (f .result .text) ≡ 20 = search needs in
+    let long = holds-long (f .result) (fieldText field) room (f .ensures) in
+    let next : w .result ≡ l .at + length (fieldText field ++ (end .result ∷ [])) = omega (arith, w .ensures .0, long, length-append (fieldText field) (end .result ∷ [])) in
+    let after = rw (f .ensures .0) at (w .ensures .1) in (
       l .inv .0,
       l .inv .1,
       omega arith,
       w .kept .0 ∙ l .inv .3,
-      omega (arith, w .ensures .2, l .inv .4),
+      omega (arith, w .ensures .0, f .ensures .1, l .inv .4),
       begun-next (take last fields) _ (l .line) (l .at) (l .i) (Mark 0) (w .result) (w .last .0) (omega arith)
-          (rw (here, n, ← end) (w .ensures .0)) (rw (here, n, ← end) (w .ensures .1)) (omega (arith, w .ensures .2, l .inv)) (l .inv .5),
+          (rw (here, n, ← (end .ensures)) next) (rw (here, n, ← (end .ensures)) after) (omega (arith, w .ensures .0, f .ensures .1, l .inv)) (l .inv .5),
     )
 
 array-share-prefix-line : tie.Need-array-share-prefix-line Inv-loop μ-loop
@@ -108,6 +120,7 @@ write-fields-spec =
     mul-field
     array-copy-out-field
     slice-aggregate-put-ended
+    field-text-requires
     end-of-requires
     put-ended-requires
     add-i
