@@ -84,9 +84,8 @@ fn answer_of(answered: BeaconAnswer, beacon: &[u8]) -> Answer {
 }
 
 fn after_hearing(heard: Heard, beacon: &[u8]) -> StateStep {
-    let state = heard.state;
     let answered = heard.answer;
-    keep(state, answer_of(answered, beacon))
+    keep(heard.state, answer_of(answered, beacon))
 }
 
 fn key_of(flag: u8) -> Key {

@@ -88,13 +88,16 @@ fn status(kind: FilterType, count: u8) -> Answer {
     letter(b'F').long(read32(&octets, 0))
 }
 
-fn after_step(step: FilterStep) -> FilterOutcome {
-    let filter = step.filter;
-    let answered = step.answer;
+fn answer_of(answered: FilterAnswer) -> Answer {
     match answered {
-        FilterAnswer::Status { kind, count } => keep(filter, status(kind, count)),
-        FilterAnswer::Refused(r) => keep(filter, refused(refusal_numbers::of_filter(r))),
+        FilterAnswer::Status { kind, count } => status(kind, count),
+        FilterAnswer::Refused(r) => refused(refusal_numbers::of_filter(r)),
     }
+}
+
+fn after_step(step: FilterStep) -> FilterOutcome {
+    let answered = step.answer;
+    keep(step.filter, answer_of(answered))
 }
 
 fn pass(filter: Filter, address: u16) -> Answer {

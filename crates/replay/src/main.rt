@@ -85,41 +85,36 @@ fn keep(held: Held, answer: Answer) -> Step {
 fn with_links(held: Held, step: Records) -> Step {
     let mut after = held;
     let links = step.links;
-    let answer = step.answer;
     after.links = links;
-    keep(after, answer)
+    keep(after, step.answer)
 }
 
 fn with_transfer(held: Held, step: TransferStep) -> Step {
     let mut after = held;
     let transfer = step.transfer;
-    let answer = step.answer;
     after.transfer = transfer;
-    keep(after, answer)
+    keep(after, step.answer)
 }
 
 fn with_filter(held: Held, step: FilterOutcome) -> Step {
     let mut after = held;
     let filter = step.filter;
-    let answer = step.answer;
     after.filter = filter;
-    keep(after, answer)
+    keep(after, step.answer)
 }
 
 fn with_security(held: Held, step: StateStep) -> Step {
     let mut after = held;
-    let state = step.state;
-    let answer = step.answer;
-    after.security = state;
-    keep(after, answer)
+    let security = step.state;
+    after.security = security;
+    keep(after, step.answer)
 }
 
 fn with_viewed(held: Held, step: ViewStep) -> Step {
     let mut after = held;
     let viewed = step.viewed;
-    let answer = step.answer;
     after.viewed = viewed;
-    keep(after, answer)
+    keep(after, step.answer)
 }
 
 // The hash goes on over the characters of an answer, its newline left out.
@@ -140,15 +135,11 @@ fn hash_answer(hash: u32, answer: Answer) -> u32 {
 // The hash of the characters of what shows the state.
 fn hash_state(held: Held) -> u32 {
     let links = held.links;
-    let transfer = held.transfer;
-    let filter = held.filter;
-    let security = held.security;
-    let viewed = held.viewed;
     let mut h = hash_answer(1, records::show_all(links));
-    h = hash_answer(h, transfers::show(transfer));
-    h = hash_answer(h, filters::show(filter));
-    h = hash_answer(h, beacons::show(security));
-    hash_answer(h, messages::show_view(viewed))
+    h = hash_answer(h, transfers::show(held.transfer));
+    h = hash_answer(h, filters::show(held.filter));
+    h = hash_answer(h, beacons::show(held.security));
+    hash_answer(h, messages::show_view(held.viewed))
 }
 
 // Everything as at start, or the hash of everything.
@@ -241,22 +232,10 @@ fn perform_bare(held: Held, subject: Subject, first: u8, second: u8, x: &[u8]) -
             let links = held.links;
             with_links(held, records::perform(second, links, x))
         }
-        Subject::Transfer => {
-            let transfer = held.transfer;
-            with_transfer(held, transfers::perform(second, transfer, x))
-        }
-        Subject::Filter => {
-            let filter = held.filter;
-            with_filter(held, filters::perform(second, filter, x))
-        }
-        Subject::View => {
-            let viewed = held.viewed;
-            with_viewed(held, messages::perform(second, viewed, x))
-        }
-        Subject::Security => {
-            let security = held.security;
-            with_security(held, beacons::perform(second, security, x))
-        }
+        Subject::Transfer => with_transfer(held, transfers::perform(second, held.transfer, x)),
+        Subject::Filter => with_filter(held, filters::perform(second, held.filter, x)),
+        Subject::View => with_viewed(held, messages::perform(second, held.viewed, x)),
+        Subject::Security => with_security(held, beacons::perform(second, held.security, x)),
         _ => keep(held, perform_leaf(first, x)),
     }
 }
@@ -276,10 +255,7 @@ fn perform_with(
             let links = held.links;
             with_links(held, station_calls::receive(links, x, part))
         }
-        Subject::Piece => {
-            let transfer = held.transfer;
-            with_transfer(held, transfers::read(transfer, x, part))
-        }
+        Subject::Piece => with_transfer(held, transfers::read(held.transfer, x, part)),
         Subject::Output => keep(held, writers::perform(second, x, part)),
         Subject::Whole => perform_whole(held, second, part),
         _ => perform_bare(held, subject, first, second, x),
@@ -327,16 +303,14 @@ fn read_line(text: &[u8]) -> Line {
 
 fn perform_line(held: Held, line: Line, kept: &mut [u8]) -> Step {
     let octets = line.octets;
-    let first = line.first;
-    let second = line.second;
     let all = &octets[..];
     let count = line.count;
     if all.len() < count {
         return keep(held, malformed());
     }
     let x = &all[0..count];
-    if shapes::fits(first, second, count) & shapes::in_range(first, second, x) {
-        return perform(held, first, second, x, kept);
+    if shapes::is_operation(line.first, line.second, x) {
+        return perform(held, line.first, line.second, x, kept);
     }
     keep(held, malformed())
 }
@@ -350,12 +324,10 @@ struct Progress {
 }
 
 fn begin() -> Progress {
-    let streams = lines::start();
-    let held = at_start();
     Progress {
-        streams: streams,
+        streams: lines::start(),
         characters: 0,
-        held: held,
+        held: at_start(),
     }
 }
 
@@ -374,13 +346,11 @@ fn read_on(progress: Progress, input: &mut [u8], kept: &mut [u8], output: &[u8])
     requires { ⌜ 17408 ≤ length (now kept) ⌝ }
     ensures { λ r. ⌜ 17408 + r .characters ≤ length (now (kept .exit)) ⌝ }
 {
-    let before = progress.streams;
     let held = progress.held;
-    let streams = lines::next_piece(before, input, output);
-    let characters = hold(streams, progress.characters, input, kept);
+    let streams = lines::next_piece(progress.streams, input, output);
     Progress {
         streams: streams,
-        characters: characters,
+        characters: hold(streams, progress.characters, input, kept),
         held: held,
     }
 }
@@ -399,12 +369,9 @@ fn write_answer(before: Streams, answer: Answer, kept: &[u8], output: &mut [u8])
 
 // The state after an operation, and its answer written.
 fn write_step(progress: Progress, step: Step, kept: &[u8], output: &mut [u8]) -> Progress {
-    let before = progress.streams;
     let held = step.held;
-    let answer = step.answer;
-    let streams = write_answer(before, answer, kept, output);
     Progress {
-        streams: streams,
+        streams: write_answer(progress.streams, step.answer, kept, output),
         characters: 0,
         held: held,
     }
@@ -414,9 +381,8 @@ fn write_step(progress: Progress, step: Step, kept: &[u8], output: &mut [u8]) ->
 fn perform_characters(progress: Progress, kept: &mut [u8]) -> Step
     requires { ⌜ 17408 + progress .characters ≤ length (now kept) ⌝ }
 {
-    let held = progress.held;
     let line = read_line(&kept[LINE..LINE + progress.characters]);
-    perform_line(held, line, kept)
+    perform_line(progress.held, line, kept)
 }
 
 // Whether the line is whole: a newline ends it, and the end of input a line that has characters.
@@ -458,8 +424,7 @@ fn run(input: &mut [u8], kept: &mut [u8], output: &mut [u8])
             turns = 0;
         }
     }
-    let streams = progress.streams;
-    lines::flush(streams, output);
+    lines::flush(progress.streams, output);
 }
 
 fn main() {

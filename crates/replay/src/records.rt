@@ -104,9 +104,8 @@ fn put_last(before: Answer, last: LastDelivered) -> Answer {
 }
 
 fn put_message(before: Answer, m: HalfMessage) -> Answer {
-    let t = m.number;
     let mut after = before.octet(1);
-    after = after.octet(t.0);
+    after = after.octet(m.number.0);
     after = after.pair(m.length);
     after = after.octet(m.check);
     after = after.long((m.marks / 4294967296) as u32);
@@ -122,12 +121,11 @@ fn put_half(before: Answer, half: HalfReceived) -> Answer {
 
 fn put_record(before: Answer, link: Link) -> Answer {
     let state = link.state;
-    let next = link.next;
     let last = link.last;
     let half = link.half;
     let mut after = before.octet(use_octet(state));
     after = after.long(link.id);
-    after = after.octet(next.0);
+    after = after.octet(link.next.0);
     after = after.flag(link.outstanding);
     after = put_last(after, last);
     put_half(after, half)

@@ -79,7 +79,7 @@ fn fits_writer(second: u8, count: usize) -> bool {
 }
 
 // Whether two letters name an operation that has so many octets of arguments.
-pub(super) fn fits(first: u8, second: u8, count: usize) -> bool {
+fn fits(first: u8, second: u8, count: usize) -> bool {
     match first {
         b'A' => fits_storage(second, count),
         b'B' => fits_storage(second, count) | ((second == b'R') & (3 <= count)),
@@ -115,13 +115,18 @@ fn is_state(first: u8, x: &[u8]) -> bool {
 }
 
 // Whether the arguments of an operation are in their ranges; a socket, a place and a lent count are looked at where they are used.
-pub(super) fn in_range(first: u8, second: u8, x: &[u8]) -> bool {
+fn in_range(first: u8, second: u8, x: &[u8]) -> bool {
     match second {
         b'S' => is_state(first, x),
         b'R' => (first != b'B') | (is_flag(x, 0) & is_flag(x, 1) & is_flag(x, 2)),
         b'F' => (first != b'V') | (read16(x, 0) != 0),
         _ => true,
     }
+}
+
+// Whether a line of two letters and octets is well-formed.
+pub(super) fn is_operation(first: u8, second: u8, x: &[u8]) -> bool {
+    fits(first, second, x.len()) & in_range(first, second, x)
 }
 
 // The octets behind the first so many.

@@ -37,10 +37,9 @@ fn half_of(x: &[u8]) -> HalfTransfer {
 }
 
 fn set(x: &[u8]) -> TransferStep {
-    let half = half_of(x);
     let after = Transfer {
         connected: octet_at(x, 0) == 1,
-        half: half,
+        half: half_of(x),
     };
     keep(after, done())
 }
@@ -54,13 +53,16 @@ pub(super) fn show(transfer: Transfer) -> Answer {
     }
 }
 
-fn after_connecting(connected: ConnectionSet) -> TransferStep {
-    let transfer = connected.transfer;
-    let answered = connected.answer;
+fn connection_answer(answered: ConnectionAnswer) -> Answer {
     match answered {
-        ConnectionAnswer::Done => keep(transfer, done()),
-        ConnectionAnswer::BadState => keep(transfer, refused(14)),
+        ConnectionAnswer::Done => done(),
+        ConnectionAnswer::BadState => refused(14),
     }
+}
+
+fn after_connecting(connected: ConnectionSet) -> TransferStep {
+    let answered = connected.answer;
+    keep(connected.transfer, connection_answer(answered))
 }
 
 fn piece_answer(answered: PieceAnswer) -> Answer {
@@ -74,9 +76,8 @@ fn piece_answer(answered: PieceAnswer) -> Answer {
 // Reads a piece, with octets of storage B lent.
 pub(super) fn read(transfer: Transfer, x: &[u8], buffer: &mut [u8]) -> TransferStep {
     let read = proxy_reading::read_piece(transfer, buffer, behind(x, 2));
-    let after = read.transfer;
     let answered = read.answer;
-    keep(after, piece_answer(answered))
+    keep(read.transfer, piece_answer(answered))
 }
 
 fn count(x: &[u8]) -> Answer {
