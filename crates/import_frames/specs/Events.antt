@@ -14,7 +14,8 @@ use Rattle.links.specs.declared.Found.the-variants.{At, Nowhere}
 use Rattle.station.specs.Calls.{receiving}
 use Rattle.provisioning.specs.Message.{messageRead}
 use Rattle.provisioning.specs.declared.Message.{Message}
-use Rattle.stock_record.specs.Texts.{recordLine, otherLine, refusalLine}
+use Rattle.stock_record.specs.Texts.{recordLine}
+use Rattle.import_notes.specs.Notes.{otherLine, refusalLine}
 use Rattle.import_tray.specs.Awaited.{trayOf}
 use Rattle.import_tray.specs.declared.Tray.{Tray}
 use Rattle.import_frames.specs.Frames.{Step, stepTo, socketAt, outcomeOf, readingOf}

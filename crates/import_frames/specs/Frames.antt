@@ -17,7 +17,8 @@ use Rattle.links.specs.declared.Answer.the-variants as A
 use Rattle.provisioning.specs.Message.{messageRead, refusalNumber as messageRefusalNumber}
 use Rattle.provisioning.specs.declared.Message.{Message}
 use Rattle.provisioning.specs.declared.Message.the-variants as M
-use Rattle.stock_record.specs.Texts.{recordLine, otherLine, refusalLine}
+use Rattle.stock_record.specs.Texts.{recordLine}
+use Rattle.import_notes.specs.Notes.{otherLine, refusalLine}
 use Rattle.import_tray.specs.Awaited.{trayOf, withAwaited}
 use Rattle.import_tray.specs.declared.Tray.{Tray}
 use Rattle.import_frames.specs.declared.Outcome.{Outcome}

@@ -57,11 +57,11 @@ pub fn tell_message(delivery: Delivery, message: Message, number: u64, output: &
         },
         Reading::Refused(refusal) => Told {
             came: false,
-            answer: stock_record::write_refusal(refusal, number, output),
+            answer: import_notes::write_refusal(refusal, number, output),
         },
         Reading::Other => Told {
             came: false,
-            answer: stock_record::write_other(number, message, output),
+            answer: import_notes::write_other(number, message, output),
         },
     }
 }

@@ -111,7 +111,7 @@ fn tell(event: Event, area: &[u8], number: u64, output: &mut [u8]) -> Told
         }
         Event::Refused(refusal) => Told {
             came: false,
-            answer: stock_record::write_refusal(refusal, number, output),
+            answer: import_notes::write_refusal(refusal, number, output),
         },
         _ => Told {
             came: false,

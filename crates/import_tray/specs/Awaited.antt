@@ -6,7 +6,7 @@ use lib.ListN.{getD, set}
 use Rattle.transactions.specs.Numbers.{isSocket}
 use Rattle.transactions.specs.declared.Socket.{Socket}
 use Rattle.links.specs.declared.Link.{Link}
-use Rattle.stock_record.specs.Texts.{missingLine}
+use Rattle.import_notes.specs.Notes.{missingLine}
 use Rattle.import_tray.specs.declared.Tray.{Tray}
 
 abbrev pub trayOf : List Link → List Bool → Tray

@@ -43,7 +43,7 @@ pub fn missing_line(tray: Tray, socket: Socket, output: &mut [u8]) -> Written
         × (now (output .exit) ≡ textOutput (missingText tray socket) (now (output .entry))) ⌝ }
 {
     if is_missing(tray, socket) {
-        return stock_record::write_missing(socket, output);
+        return import_notes::write_missing(socket, output);
     }
     Written::Count(0)
 }

@@ -1,4 +1,4 @@
--- The lines of the import step.
+-- The stock records and their header.
 use Prim.Native.Nat.{ℕ}
 use mathlib.Core.List.{List, [], _∷_}
 use Rattle.line_fields.specs.Lines.{ascii, lineOf}
@@ -7,7 +7,6 @@ use Rattle.line_fields.specs.declared.Field.the-variants as F
 use Rattle.transactions.specs.declared.Socket.{Socket}
 use Rattle.transactions.specs.declared.TransactionNumber.{TransactionNumber}
 use Rattle.provisioning.specs.declared.Capabilities.{Capabilities}
-use Rattle.provisioning.specs.declared.Message.{Message}
 
 -- the first line of all
 unfoldable pub headerLine : List ℕ
@@ -33,15 +32,3 @@ recordFields socket id number c =
 -- THE RECORD of a Capabilities message, as `3,0x23AF5850,0x80,1,0x0001,0,0,0,0x0000,0,0x0000`
 unfoldable pub recordLine : Socket → ℕ → TransactionNumber → Capabilities → List ℕ
 recordLine socket id number c = lineOf (recordFields socket id number c)
-
--- a message of another kind, in an input line: `-,17,Public Key`
-unfoldable pub otherLine : ℕ → Message → List ℕ
-otherLine line message = lineOf (F.Mark 45 ∷ F.Decimal line ∷ F.Name message ∷ [])
-
--- document 01's number of a refusal, and the input line: `!07,23`
-unfoldable pub refusalLine : ℕ → ℕ → List ℕ
-refusalLine refusal line = lineOf (F.Refusal refusal ∷ F.Decimal line ∷ [])
-
--- a socket that was opened and has no record: `?,3`
-unfoldable pub missingLine : Socket → List ℕ
-missingLine socket = lineOf (F.Mark 63 ∷ F.Decimal (socket .0) ∷ [])

@@ -1,7 +1,7 @@
-use Rattle.stock_record.specs.Texts.{otherLine}
+use Rattle.import_notes.specs.Notes.{otherLine}
 use borrow.Author.Needs.{needs}
-use Rattle.stock_record.proofs.write_other.Statement.{statement}
-use Rattle.stock_record.proofs.write_other.Tie as tie
+use Rattle.import_notes.proofs.write_other.Statement.{statement}
+use Rattle.import_notes.proofs.write_other.Tie as tie
 
 array-set-from-fields : tie.Need-array-set-from-fields
 array-set-from-fields c = search needs

@@ -1,7 +1,7 @@
-use Rattle.stock_record.specs.Texts.{refusalLine}
+use Rattle.import_notes.specs.Notes.{refusalLine}
 use borrow.Author.Needs.{needs}
-use Rattle.stock_record.proofs.write_refusal.Statement.{statement}
-use Rattle.stock_record.proofs.write_refusal.Tie as tie
+use Rattle.import_notes.proofs.write_refusal.Statement.{statement}
+use Rattle.import_notes.proofs.write_refusal.Tie as tie
 
 array-set-from-fields : tie.Need-array-set-from-fields
 array-set-from-fields c = search needs

@@ -1,7 +1,7 @@
-use Rattle.stock_record.specs.Texts.{missingLine}
+use Rattle.import_notes.specs.Notes.{missingLine}
 use borrow.Author.Needs.{needs}
-use Rattle.stock_record.proofs.write_missing.Statement.{statement}
-use Rattle.stock_record.proofs.write_missing.Tie as tie
+use Rattle.import_notes.proofs.write_missing.Statement.{statement}
+use Rattle.import_notes.proofs.write_missing.Tie as tie
 
 cast-t5 : tie.Need-cast-t5
 cast-t5 c = search needs
