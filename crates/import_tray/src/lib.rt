@@ -21,7 +21,7 @@ pub fn new_tray() -> Tray
     ensures { λ r. ⌜ r ≡ trayOf (replicate 8 (blank Provisioner)) (replicate 8 false) ⌝ }
 {
     Tray {
-        links: local_calls::blank_links(),
+        links: link_records::blank_links(),
         awaited: [false; 8],
     }
 }

@@ -7,8 +7,8 @@ use links::LinkState;
 use links::Refusal;
 use transactions::TransactionNumber;
 ghost use mathlib.Core.Path.{_≡_};
-ghost use lib.ListN.{getD};
-ghost use Rattle.links.specs.Links.{blankWith, withSending};
+ghost use lib.ListN.{getD, replicate};
+ghost use Rattle.links.specs.Links.{blank, blankWith, withSending};
 ghost use Rattle.links.specs.Station.{noLink};
 ghost use Rattle.links.specs.declared.Side.the-variants.{Provisioner};
 ghost use Rattle.link_records.specs.Records.{callRefused, stored};
@@ -31,6 +31,14 @@ pub fn blank_with(state: LinkState, id: u32) -> Link
         last: LastDelivered::Nothing,
         half: HalfReceived::Nothing,
     }
+}
+
+// The records of a station at its start: eight sockets, all free.
+pub fn blank_links() -> [Link; 8]
+    ensures { λ r. ⌜ r ≡ replicate 8 (blank Provisioner) ⌝ }
+{
+    let link = blank_with(LinkState::Free, 0);
+    [link; 8]
 }
 
 // The record with another sending number and outstanding mark.

@@ -1,4 +1,4 @@
--- Sockets and lengths in range, and a message that may be sent.
+-- Lengths in range, and a message that may be sent.
 use Prim.Native.Nat.{ℕ, _≤_}
 use mathlib.Core.Bool.{true, false}
 use mathlib.Core.List.{List}
@@ -6,21 +6,15 @@ use mathlib.Core.Path.{_≡_}
 use lib.ListN.{length}
 use borrow.Author.Tests.{le-leb, leb-true}
 use Rattle.octets.proofs.Tests.{both-hold}
-use Rattle.transactions.specs.Numbers.{isSocket}
 use Rattle.transactions.specs.Segments.{isLength, segN}
 use Rattle.transactions.specs.declared.Socket.{Socket}
+use Rattle.transactions.proofs.Laws.{socket-in}
 use Rattle.links.specs.Links.{withSending}
 use Rattle.links.specs.Station.{isOpen, linkAt, withLink, localSend}
 use Rattle.links.specs.declared.Side.the-variants.{Provisioner}
 use Rattle.links.specs.declared.Link.{Link}
 use Rattle.links.specs.declared.Answer.the-variants as A
 use Rattle.local_calls.specs.Calls.{CallAsks}
-
-pub socket-in : (s : Socket) (n : ℕ) → 1 ≤ s .0 → s .0 ≤ n → isSocket s n ≡ true
-socket-in s n low high = rw (le-leb 1 (s .0) low, le-leb (s .0) n high)
-
-pub socket-out : (s : Socket) (n : ℕ) → isSocket s n ≡ true → (1 ≤ s .0) × (s .0 ≤ n)
-socket-out s n e = let p = both-hold e in (leb-true 1 (s .0) (p .0), leb-true (s .0) n (p .1))
 
 pub length-out : (n : ℕ) → isLength n ≡ true → (1 ≤ n) × (n ≤ 1469)
 length-out n e = let p = both-hold e in (leb-true 1 n (p .0), leb-true n 1469 (p .1))

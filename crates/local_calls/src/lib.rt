@@ -1,5 +1,4 @@
-// The station's local calls: open, send and close, and the records at its start. Each call takes the eight link records by value and
-// hands them back.
+// The station's local calls: open, send and close. Each takes the eight link records by value and hands them back.
 use link_records::Received;
 use link_records::blank_with;
 use link_records::link_at;
@@ -14,20 +13,10 @@ use links::Side;
 use transactions::Socket;
 ghost use Prim.Native.Nat.{_-_, _≤_, _<_};
 ghost use mathlib.Core.Path.{_≡_};
-ghost use lib.ListN.{replicate};
 ghost use Rattle.transactions.specs.Segments.{isLength};
-ghost use Rattle.links.specs.Links.{blank};
 ghost use Rattle.links.specs.Station.{localOpen, localSend, localClose};
 ghost use Rattle.links.specs.declared.Side.the-variants.{Provisioner};
 ghost use Rattle.local_calls.specs.Calls.{calledOf, CallAsks};
-
-// The records of a station at its start: eight sockets, all free.
-pub fn blank_links() -> [Link; 8]
-    ensures { λ r. ⌜ r ≡ replicate 8 (blank Provisioner) ⌝ }
-{
-    let link = blank_with(LinkState::Free, 0);
-    [link; 8]
-}
 
 // The place of a socket's record.
 fn place_of(socket: Socket) -> usize

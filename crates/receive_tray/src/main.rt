@@ -190,7 +190,7 @@ fn main() {
     // Socket 1's message stands at 1,469: place 0 is of no socket.
     let mut messages = [0u8; 13221];
     fill(&mut messages);
-    let links = local_calls::blank_links();
+    let links = link_records::blank_links();
     let tally = Tally {
         opened: 0,
         kept: 0,

@@ -63,7 +63,7 @@ fn at_start() -> Held {
         octets: [0u8; 0x0600],
         place: 0,
     };
-    let links = local_calls::blank_links();
+    let links = link_records::blank_links();
     let transfer = proxy_connection::new_transfer();
     let filter = Filter::new();
     Held {

@@ -1,6 +1,6 @@
 use mathlib.Core.Path.{sym, _∙_}
 use native.Mathlib.Omega.{arith}
-use Rattle.local_calls.proofs.Laws.{socket-out}
+use Rattle.transactions.proofs.Laws.{socket-out}
 use borrow.Author.Needs.{needs}
 use Rattle.import_tray.proofs.is_missing.Statement.{statement}
 use Rattle.import_tray.proofs.is_missing.Tie as tie

@@ -3,7 +3,7 @@ use borrow.Author.Needs.{needs}
 use lib.ListN.{length}
 use mathlib.Core.Path.{_∙_, _≡_, sym}
 use Rattle.links.specs.Station.{localClose}
-use Rattle.local_calls.proofs.Laws.{socket-out}
+use Rattle.transactions.proofs.Laws.{socket-out}
 use Rattle.local_calls.proofs.close.Statement.{statement}
 use Rattle.local_calls.proofs.close.Tie as tie
 

@@ -3,7 +3,8 @@ use borrow.Author.Needs.{needs}
 use lib.ListN.{length}
 use mathlib.Core.Path.{_∙_, _≡_, sym}
 use Rattle.links.specs.Station.{localSend}
-use Rattle.local_calls.proofs.Laws.{length-out, socket-out}
+use Rattle.transactions.proofs.Laws.{socket-out}
+use Rattle.local_calls.proofs.Laws.{length-out}
 use Rattle.local_calls.proofs.send.Statement.{statement}
 use Rattle.local_calls.proofs.send.Tie as tie
 

@@ -4,7 +4,8 @@ use borrow.Author.Tests.{le-leb}
 use lib.ListN.{length}
 use mathlib.Core.Path.{_∙_, _≡_, ap, sym}
 use Rattle.links.specs.Station.{localSend}
-use Rattle.local_calls.proofs.Laws.{sends-on, socket-in}
+use Rattle.transactions.proofs.Laws.{socket-in}
+use Rattle.local_calls.proofs.Laws.{sends-on}
 use Rattle.local_calls.specs.Calls.{calledOf}
 use Rattle.local_calls.proofs.send_at.Statement.{statement}
 use Rattle.local_calls.proofs.send_at.Tie as tie

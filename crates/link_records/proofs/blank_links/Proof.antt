@@ -2,8 +2,8 @@ use borrow.Author.Needs.{needs}
 use lib.ListN.{replicate}
 use mathlib.Core.Path.{ap}
 use Rattle.links.specs.declared.Link.{Link}
-use Rattle.local_calls.proofs.blank_links.Statement.{statement}
-use Rattle.local_calls.proofs.blank_links.Tie as tie
+use Rattle.link_records.proofs.blank_links.Statement.{statement}
+use Rattle.link_records.proofs.blank_links.Tie as tie
 
 blank-with-requires : tie.Need-blank-with-requires
 blank-with-requires c κs = search needs
