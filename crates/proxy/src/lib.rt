@@ -1,5 +1,6 @@
-// Proxy transfer: the transfer and the answers of its calls. The rules over them are specs/, the promises proofs/; the code that runs them is
-// in the crates proxy_writing and proxy_reading. The type of a message is called kind here, since `type` is a word of the language.
+// Proxy transfer: the transfer and the answers of its calls. The rules over them are in specs/, the promises in proofs/; the code that runs them is
+// in the crates proxy_writing, proxy_connection and proxy_reading. The type of a message is called kind here, since `type` is a word of the language.
+
 // The answer of the count of pieces.
 pub enum PieceCount {
     Pieces(usize),
@@ -23,7 +24,7 @@ pub enum ConnectionAnswer {
     BadState,
 }
 
-// The transfer after setConnected or disconnecting, and the answer.
+// The transfer after connecting or disconnecting, and the answer.
 pub struct ConnectionSet {
     pub transfer: Transfer,
     pub answer: ConnectionAnswer,
