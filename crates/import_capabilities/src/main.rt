@@ -1,22 +1,40 @@
 // Reads the log of a tray from standard input, a line for each opening and each frame heard, and writes a stock record for each module that
 // answers, to standard output.
+use import_lines::Imported;
 use import_tray::Tray;
 use lines::Streams;
 use octets::Written;
 use transactions::Socket;
 ghost use mathlib.Core.Path.{_≡_};
 ghost use Prim.Native.Nat.{_≤_};
-ghost use lib.ListN.{length};
-ghost use Rattle.import_capabilities.specs.Progress.{Kept};
+ghost use Rattle.held_line.specs.Held.{heldFrom};
+ghost use Rattle.import_lines.specs.Lines.{lineStep, lineArea};
+ghost use Rattle.import_lines.specs.Steps.{importedOf, areaAfter, outputAfter};
+ghost use Rattle.import_capabilities.specs.Held.{heldText};
+
+// The line so far, in such a shape that it is imported as the whole line would be.
+struct Line {
+    characters: [u8; 64],
+    // Characters that are held.
+    count: usize,
+}
 
 // How far the program has come.
 struct Progress {
     streams: Streams,
-    // Characters that are held of the line so far.
-    held: usize,
+    line: Line,
     // The number of the last line, from 1.
     number: u64,
     tray: Tray,
+}
+
+fn empty_line() -> Line
+    ensures { λ r. ⌜ r .count ≡ 0 ⌝ }
+{
+    Line {
+        characters: [0u8; 64],
+        count: 0,
+    }
 }
 
 fn next_number(number: u64) -> u64 {
@@ -28,124 +46,112 @@ fn next_number(number: u64) -> u64 {
 }
 
 // The text at the end of what waited waits too.
-fn waits(streams: Streams, answer: Written, output: &[u8]) -> Streams
-    ensures { λ r. ⌜ r .waiting ≤ length (now (output .entry)) ⌝ }
-{
-    match answer {
-        Written::Count(n) => lines::add_waiting(streams, output, n),
+fn waits(streams: Streams, answer: Written, output: &[u8]) -> Streams {
+    let Written::Count(n) = answer else {
         // Never: room was made for any text.
-        Written::WrongArgument => lines::make_room(streams, output, 0),
-    }
+        return streams;
+    };
+    lines::add_waiting(streams, output, n)
 }
 
-// Ends the line: its text waits in the output.
-fn end_line(progress: Progress, line: &[u8], area: &mut [u8], output: &mut [u8]) -> Progress
-    requires { ⌜ progress .held ≤ length (now line) ⌝ }
-    ensures { λ r. ⌜ Kept r (now (line .entry)) (now (output .exit)) ⌝ }
+// Holds a piece more of the line.
+fn hold_piece(line: Line, piece: &[u8]) -> Line
+    requires { ⌜ line .count ≤ 64 ⌝ }
+    ensures { λ r. ⌜ (r .count ≤ 64) × (heldText r ≡ heldFrom (heldText line) (now (piece .entry))) ⌝ }
 {
-    let held = progress.held;
-    let tray = progress.tray;
-    let before = progress.streams;
-    let number = next_number(progress.number);
-    let streams = lines::make_room(before, output, line_fields::MOST);
-    let waiting = streams.waiting;
-    let imported = import_lines::import_line(
-        tray,
-        area,
-        number,
-        &line[0..held],
-        &mut output[waiting..],
-    );
-    let after = imported.tray;
-    let answer = imported.answer;
-    let wrote = waits(streams, answer, output);
-    Progress {
-        streams: wrote,
-        held: 0,
-        number: number,
-        tray: after,
-    }
-}
-
-// Holds a piece more of a line, in such a shape that it is imported as the whole line would be.
-fn hold_piece(line: &mut [u8], before: usize, piece: &[u8]) -> usize
-    ensures { λ r. ⌜ r ≤ length (now (line .exit)) ⌝ }
-{
-    let mut held = before;
+    let mut characters = line.characters;
+    let mut count = line.count;
     let mut i = 0;
     while i < piece.len() {
-        held = held_line::hold(line, held, piece[i]);
+        count = held_line::hold(&mut characters, count, piece[i]);
         i += 1;
     }
-    if line.len() < held { line.len() } else { held }
+    Line {
+        characters: characters,
+        count: count,
+    }
 }
 
-// A piece of the input comes.
-fn take_piece(
-    progress: Progress,
-    streams: Streams,
-    piece: &[u8],
-    line: &mut [u8],
-    area: &mut [u8],
-    output: &mut [u8],
-) -> Progress
-    requires { ⌜ streams .waiting ≤ length (now output) ⌝ }
-    ensures { λ r. ⌜ Kept r (now (line .exit)) (now (output .exit)) ⌝ }
+// Reads on as far as a line's end, or the end of what is there.
+fn read_on(progress: Progress, input: &mut [u8], output: &[u8]) -> Progress
+    requires { ⌜ progress .line .count ≤ 64 ⌝ }
+    ensures { λ r. ⌜ r .line .count ≤ 64 ⌝ }
 {
-    let held = hold_piece(line, progress.held, piece);
-    let tray = progress.tray;
-    let after = Progress {
-        streams: streams,
-        held: held,
-        number: progress.number,
-        tray: tray,
-    };
-    if streams.ends {
-        return end_line(after, line, area, output);
-    }
+    let streams = lines::next_piece(progress.streams, input, output);
+    let from = streams.from;
+    let to = streams.to;
+    let mut after = progress;
+    after.streams = streams;
+    after.line = hold_piece(progress.line, &input[from..to]);
     after
 }
 
-// Reads on as far as a line's end, or the end of what is there, and takes what was read.
-fn take_turn(
-    progress: Progress,
-    input: &mut [u8],
-    line: &mut [u8],
-    area: &mut [u8],
-    output: &mut [u8],
-) -> Progress
-    ensures { λ r. ⌜ Kept r (now (line .exit)) (now (output .exit)) ⌝ }
+// Whether the line is whole: a newline ends it, and the end of input a line that has characters.
+fn is_whole(progress: Progress) -> bool {
+    let streams = progress.streams;
+    let line = progress.line;
+    streams.ends | (!streams.found & (0 < line.count))
+}
+
+// Imports the line, the line of that number.
+fn import_held(tray: Tray, area: &mut [u8], number: u64, line: Line, output: &mut [u8]) -> Imported
+    requires { ⌜ line .count ≤ 64 ⌝ }
+    ensures { λ r. ⌜ (r ≡ importedOf tray (lineStep tray (now (area .entry)) number (heldText line)) (now (output .entry)))
+        × (now (area .exit) ≡ areaAfter (now (area .entry)) (lineArea tray (now (area .entry)) (heldText line)) (now (output .entry)))
+        × (now (output .exit) ≡ outputAfter (lineStep tray (now (area .entry)) number (heldText line)) (now (output .entry))) ⌝ }
 {
-    let before = progress.streams;
-    let next = lines::next_piece(before, input, output);
-    let from = next.from;
-    let to = next.to;
-    take_piece(progress, next, &input[from..to], line, area, output)
+    let characters = line.characters;
+    let count = line.count;
+    import_lines::import_line(tray, area, number, &characters[..count], output)
+}
+
+// Ends the line: its text waits in the output.
+fn end_line(progress: Progress, area: &mut [u8], output: &mut [u8]) -> Progress
+    requires { ⌜ progress .line .count ≤ 64 ⌝ }
+    ensures { λ r. ⌜ r .line .count ≡ 0 ⌝ }
+{
+    let number = next_number(progress.number);
+    let streams = lines::make_room(progress.streams, output, line_fields::MOST);
+    let waiting = streams.waiting;
+    let imported = import_held(
+        progress.tray,
+        area,
+        number,
+        progress.line,
+        &mut output[waiting..],
+    );
+    let tray = imported.tray;
+    let answer = imported.answer;
+    Progress {
+        streams: waits(streams, answer, output),
+        line: empty_line(),
+        number: number,
+        tray: tray,
+    }
+}
+
+fn take_turn(progress: Progress, input: &mut [u8], area: &mut [u8], output: &mut [u8]) -> Progress
+    requires { ⌜ progress .line .count ≤ 64 ⌝ }
+    ensures { λ r. ⌜ r .line .count ≤ 64 ⌝ }
+{
+    let read = read_on(progress, input, output);
+    if is_whole(read) {
+        return end_line(read, area, output);
+    }
+    read
 }
 
 // The header is the first line, always.
 fn begin(output: &mut [u8]) -> Progress
-    ensures { λ r. ⌜ (r .held ≡ 0) × (r .streams .waiting ≤ length (now (output .exit))) ⌝ }
+    ensures { λ r. ⌜ r .line .count ≡ 0 ⌝ }
 {
     let answer = stock_record::write_header(output);
-    let streams = waits(lines::start(), answer, output);
-    let tray = import_tray::new_tray();
     Progress {
-        streams: streams,
-        held: 0,
+        streams: waits(lines::start(), answer, output),
+        line: empty_line(),
         number: 0,
-        tray: tray,
+        tray: import_tray::new_tray(),
     }
-}
-
-// The end of input ends a line that has characters.
-fn end_input(progress: Progress, line: &[u8], area: &mut [u8], output: &mut [u8]) -> Progress
-    requires { ⌜ Kept progress (now line) (now output) ⌝ }
-{
-    if 0 < progress.held {
-        return end_line(progress, line, area, output);
-    }
-    progress
 }
 
 // The line of a socket whose record is missing.
@@ -166,12 +172,12 @@ fn put_all_missing(tray: Tray, before: Streams, output: &mut [u8]) -> Streams {
     streams
 }
 
-fn run(input: &mut [u8], line: &mut [u8], area: &mut [u8], output: &mut [u8]) {
+fn run(input: &mut [u8], area: &mut [u8], output: &mut [u8]) {
     let mut progress = begin(output);
     // Nothing says that the input ends, so the turns are counted down from a number that no run uses up.
     let mut turns = u64::MAX;
     while turns > 0 {
-        progress = take_turn(progress, input, line, area, output);
+        progress = take_turn(progress, input, area, output);
         let streams = progress.streams;
         if streams.found {
             turns -= 1;
@@ -179,17 +185,13 @@ fn run(input: &mut [u8], line: &mut [u8], area: &mut [u8], output: &mut [u8]) {
             turns = 0;
         }
     }
-    let last = end_input(progress, line, area, output);
-    let tray = last.tray;
-    let before = last.streams;
-    let streams = put_all_missing(tray, before, output);
+    let streams = put_all_missing(progress.tray, progress.streams, output);
     lines::flush(streams, output);
 }
 
 fn main() {
     let mut input = io::large_buffer();
     let mut output = io::large_buffer();
-    let mut line = [0u8; 64];
     let mut area = [0u8; 11752];
-    run(&mut input, &mut line, &mut area, &mut output);
+    run(&mut input, &mut area, &mut output);
 }

@@ -1,20 +1,19 @@
 use borrow.Author.Needs.{needs}
+use Prim.Native.Nat.{_≤_}
 use lib.ListN.{length}
 use mathlib.Core.Path.{_≡_}
-use Rattle.import_capabilities.specs.Progress.{Kept}
 use Rattle.import_capabilities.proofs.run.Statement.{statement}
 use Rattle.import_capabilities.proofs.run.Tie as tie
 
 abbrev Inv-loop : tie.InvT-loop
-Inv-loop input₀ line₀ area₀ output₀ progress₀ turns₀ input line area output progress turns =
+Inv-loop input₀ area₀ output₀ progress₀ turns₀ input area output progress turns =
     (length input ≡ length input₀)
-    × (length line ≡ length line₀)
     × (length area ≡ length area₀)
     × (length output ≡ length output₀)
-    × Kept progress line output
+    × (progress .line .count ≤ 64)
 
 abbrev μ-loop : tie.MeasureT-loop
-μ-loop input₀ line₀ area₀ output₀ progress₀ turns₀ input line area output progress turns = turns
+μ-loop input₀ area₀ output₀ progress₀ turns₀ input area output progress turns = turns
 
 begin-requires : tie.Need-begin-requires Inv-loop μ-loop
 begin-requires c κs = search needs
@@ -40,9 +39,6 @@ loop-less-2 c = search needs
 loop-again-2 : tie.Need-loop-again-2 Inv-loop μ-loop
 loop-again-2 c = search needs
 
-end-input-requires : tie.Need-end-input-requires Inv-loop μ-loop
-end-input-requires c κs = search needs
-
 put-all-missing-requires : tie.Need-put-all-missing-requires Inv-loop μ-loop
 put-all-missing-requires c κs = search needs
 
@@ -57,9 +53,6 @@ same-length-2 c = search needs
 
 same-length-3 : tie.Need-same-length-3 Inv-loop μ-loop
 same-length-3 c = search needs
-
-same-length-4 : tie.Need-same-length-4 Inv-loop μ-loop
-same-length-4 c = search needs
 
 returns : tie.Need-returns Inv-loop μ-loop
 returns c = search needs
@@ -78,11 +71,9 @@ run-spec =
     loop-again
     loop-less-2
     loop-again-2
-    end-input-requires
     put-all-missing-requires
     flush-requires
     same-length
     same-length-2
     same-length-3
-    same-length-4
     returns)
