@@ -86,13 +86,6 @@ fn read_on(progress: Progress, input: &mut [u8], output: &[u8]) -> Progress
     after
 }
 
-// Whether the line is whole: a newline ends it, and the end of input a line that has characters.
-fn is_whole(progress: Progress) -> bool {
-    let streams = progress.streams;
-    let line = progress.line;
-    streams.ends | (!streams.found & (0 < line.count))
-}
-
 // Imports the line, the line of that number.
 fn import_held(tray: Tray, area: &mut [u8], number: u64, line: Line, output: &mut [u8]) -> Imported
     requires { ⌜ line .count ≤ 64 ⌝ }
@@ -135,7 +128,8 @@ fn take_turn(progress: Progress, input: &mut [u8], area: &mut [u8], output: &mut
     ensures { λ r. ⌜ r .line .count ≤ 64 ⌝ }
 {
     let read = read_on(progress, input, output);
-    if is_whole(read) {
+    let line = read.line;
+    if lines::is_whole(read.streams, line.count) {
         return end_line(read, area, output);
     }
     read

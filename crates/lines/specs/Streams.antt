@@ -1,11 +1,86 @@
--- What a program keeps of its input and its output between lines. What is read and written, no contract can say: the system answers that.
-use Prim.Native.Nat.{ℕ, _≤_}
-use mathlib.Core.List.{List}
-use lib.ListN.{length}
+-- How far a program has come in its input and its output. What is read, and whether what is written out is taken, the system answers; all else
+-- is said here.
+use Prim.Native.Nat.{ℕ, suc, _+_, _-_, _≤_}
+use mathlib.Core.Bool.{Bool, true, false, _&&_, _||_, not, cond}
+use mathlib.Core.List.{List, [], _∷_}
+use mathlib.Core.Path.{_≡_}
+use lib.Dec.{leb, ltb, eqb}
+use lib.ListN.{length, take, drop}
 use Rattle.lines.specs.declared.Streams.{Streams}
+
+-- ---- the input
+
+-- the place of the first newline of a text; the text's end where there is none
+abbrev pub newlineIn : List ℕ → ℕ
+newlineIn [] = 0
+newlineIn (c ∷ text) = cond (eqb c 10) 0 (suc (newlineIn text))
+
+-- the place of the first newline from a place on, in a buffer that has so many octets of input
+unfoldable pub newlineFrom : List ℕ → ℕ → ℕ → ℕ
+newlineFrom input from filled = from + newlineIn (drop from (take filled input))
+
+-- the piece from a place on, up to its newline
+abbrev pub pieceFrom : Streams → List ℕ → ℕ → ℕ → Streams
+pieceFrom s input from filled = record {
+  from = from;
+  to = newlineFrom input from filled;
+  ends = ltb (newlineFrom input from filled) filled;
+  filled = filled;
+  found = ltb from filled;
+  waiting = s .waiting;
+  taken = s .taken;
+}
+
+-- where the piece after the last one begins: behind the newline that ended it
+abbrev pub nextPlace : Streams → ℕ
+nextPlace s = cond (s .ends && ltb (s .to) (s .filled)) (s .to + 1) (s .to)
 
 -- the piece found last is within the input buffer, and the text that waits within the output buffer
 pub record Within (s : Streams) (input output : List ℕ) : Type 0 where
   pub piece : s .from ≤ s .to
   pub input-fits : s .to ≤ length input
   pub output-fits : s .waiting ≤ length output
+
+-- ---- the output
+
+abbrev pub withWaiting : Streams → ℕ → Bool → Streams
+withWaiting s waiting taken = record { from = s .from; to = s .to; ends = s .ends; filled = s .filled; found = s .found; waiting = waiting; taken = taken }
+
+-- what waited was written out; what standard output did not take before, it was not given
+pub record Flushed (s r : Streams) : Type 0 where
+  pub emptied : r ≡ withWaiting s 0 (r .taken)
+  pub untaken : s .taken ≡ false → r .taken ≡ false
+
+-- there is room for so much more text
+abbrev pub hasRoom : Streams → List ℕ → ℕ → Bool
+hasRoom s output room = leb (s .waiting) (length output) && leb room (length output - s .waiting)
+
+-- room made: where there is less, what waits is written out
+pub record RoomMade (s : Streams) (output : List ℕ) (room : ℕ) (r : Streams) : Type 0 where
+  pub enough : hasRoom s output room ≡ true → r ≡ s
+  pub less : hasRoom s output room ≡ false → Flushed s r
+
+-- what waits with so much more text; as much as before where that is past the output's end, and nothing where what waited was past it
+unfoldable pub waitingAfter : ℕ → List ℕ → ℕ → ℕ
+waitingAfter waiting output count = cond (leb waiting (length output)) (cond (leb count (length output - waiting)) (waiting + count) waiting) 0
+
+-- ---- the next piece
+
+-- input is left in its buffer
+abbrev pub isLeft : Streams → List ℕ → List ℕ → Bool
+isLeft s input output = leb (s .filled) (length input) && (leb (s .waiting) (length output) && ltb (nextPlace s) (s .filled))
+
+-- what was read: the first piece of it, what waits written out; nothing is read where standard output takes no more
+pub record Read (s r : Streams) (after : List ℕ) : Type 0 where
+  pub first : r ≡ pieceFrom (withWaiting s 0 (r .taken)) after 0 (r .filled)
+  pub untaken : s .taken ≡ false → r .taken ≡ false
+  pub unread : r .taken ≡ false → r .filled ≡ 0
+
+-- the next piece found, with the input buffer before and after: of what is left, or of what was read
+pub record Found (s : Streams) (input output : List ℕ) (r : Streams) (after : List ℕ) : Type 0 where
+  pub left : isLeft s input output ≡ true → (r ≡ pieceFrom s input (nextPlace s) (s .filled)) × (after ≡ input)
+  pub read : isLeft s input output ≡ false → Read s r after
+
+-- a line is whole of which so many characters are held: "ended by a newline or the end of input (nothing after the last newline is no line)"
+abbrev pub isWhole : Streams → ℕ → Bool
+isWhole s held = s .ends || (not (s .found) && ltb 0 held)

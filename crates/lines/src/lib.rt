@@ -6,7 +6,7 @@ ghost use mathlib.Core.Path.{_≡_};
 ghost use mathlib.Core.Bool.{true, false};
 ghost use Prim.Native.Nat.{_+_, _≤_};
 ghost use lib.ListN.{length};
-ghost use Rattle.lines.specs.Streams.{Within};
+ghost use Rattle.lines.specs.Streams.{newlineFrom, pieceFrom, nextPlace, Within, withWaiting, Flushed, RoomMade, waitingAfter, isLeft, Read, Found, isWhole};
 
 // How far a program has come in its input and its output.
 pub struct Streams {
@@ -43,7 +43,7 @@ pub fn start() -> Streams
 // The place of the first newline from a place on; the end where there is none.
 fn find_newline(input: &[u8], from: usize, filled: usize) -> usize
     requires { ⌜ (from ≤ filled) × (filled ≤ length (now input)) ⌝ }
-    ensures { λ r. ⌜ (from ≤ r) × (r ≤ filled) ⌝ }
+    ensures { λ r. ⌜ (r ≡ newlineFrom (now (input .entry)) from filled) × (from ≤ r) × (r ≤ filled) ⌝ }
 {
     let mut at = from;
     while at < filled {
@@ -58,7 +58,7 @@ fn find_newline(input: &[u8], from: usize, filled: usize) -> usize
 // The piece from a place on.
 fn piece_from(streams: Streams, input: &[u8], from: usize, filled: usize) -> Streams
     requires { ⌜ (from ≤ filled) × (filled ≤ length (now input)) ⌝ }
-    ensures { λ r. ⌜ (r .from ≤ r .to) × (r .to ≤ length (now (input .entry))) × (r .waiting ≡ streams .waiting) ⌝ }
+    ensures { λ r. ⌜ (r ≡ pieceFrom streams (now (input .entry)) from filled) × (from ≤ r .to) × (r .to ≤ filled) ⌝ }
 {
     let to = find_newline(input, from, filled);
     let mut after = streams;
@@ -72,7 +72,7 @@ fn piece_from(streams: Streams, input: &[u8], from: usize, filled: usize) -> Str
 
 // Writes out the text that waits.
 pub fn flush(streams: Streams, output: &[u8]) -> Streams
-    ensures { λ r. ⌜ r .waiting ≡ 0 ⌝ }
+    ensures { λ r. ⌜ Flushed streams r × (r .waiting ≡ 0) ⌝ }
 {
     let waiting = streams.waiting;
     let mut after = streams;
@@ -87,7 +87,9 @@ pub fn flush(streams: Streams, output: &[u8]) -> Streams
 }
 
 // Where the piece after the last one begins.
-fn next_place(streams: Streams) -> usize {
+fn next_place(streams: Streams) -> usize
+    ensures { λ r. ⌜ r ≡ nextPlace streams ⌝ }
+{
     if streams.ends {
         if streams.to < streams.filled {
             return streams.to + 1;
@@ -98,7 +100,7 @@ fn next_place(streams: Streams) -> usize {
 
 // Writes out what waits, and reads on.
 fn read_more(streams: Streams, input: &mut [u8], output: &[u8]) -> Streams
-    ensures { λ r. ⌜ Within r (now (input .exit)) (now (output .entry)) ⌝ }
+    ensures { λ r. ⌜ Read streams r (now (input .exit)) × Within r (now (input .exit)) (now (output .entry)) ⌝ }
 {
     let flushed = flush(streams, output);
     if flushed.taken {
@@ -109,27 +111,39 @@ fn read_more(streams: Streams, input: &mut [u8], output: &[u8]) -> Streams
     piece_from(flushed, input, 0, 0)
 }
 
-// The next piece of the input: of the line begun, or of the next one where the last piece ended its line.
-pub fn next_piece(streams: Streams, input: &mut [u8], output: &[u8]) -> Streams
-    ensures { λ r. ⌜ Within r (now (input .exit)) (now (output .entry)) ⌝ }
+// Whether input is left in its buffer.
+fn is_left(streams: Streams, input: &[u8], output: &[u8]) -> bool
+    ensures { λ r. ⌜ r ≡ isLeft streams (now (input .entry)) (now (output .entry)) ⌝ }
 {
     let from = next_place(streams);
     let filled = streams.filled;
-    if input.len() < filled {
-        return read_more(streams, input, output);
+    let waiting = streams.waiting;
+    (filled <= input.len()) & ((waiting <= output.len()) & (from < filled))
+}
+
+// The next piece of the input: of the line begun, or of the next one where the last piece ended its line.
+pub fn next_piece(streams: Streams, input: &mut [u8], output: &[u8]) -> Streams
+    ensures { λ r. ⌜ Found streams (now (input .entry)) (now (output .entry)) r (now (input .exit))
+        × Within r (now (input .exit)) (now (output .entry)) ⌝ }
+{
+    if is_left(streams, input, output) {
+        let from = next_place(streams);
+        return piece_from(streams, input, from, streams.filled);
     }
-    if output.len() < streams.waiting {
-        return read_more(streams, input, output);
-    }
-    if filled <= from {
-        return read_more(streams, input, output);
-    }
-    piece_from(streams, input, from, filled)
+    read_more(streams, input, output)
+}
+
+// Whether a line is whole of which so many characters are held: a newline ends it, and the end of input a line that has characters.
+pub fn is_whole(streams: Streams, held: usize) -> bool
+    ensures { λ r. ⌜ r ≡ isWhole streams held ⌝ }
+{
+    streams.ends | (!streams.found & (0 < held))
 }
 
 // Room for so much more text in the output: where there is less, what waits is written out.
 pub fn make_room(streams: Streams, output: &[u8], room: usize) -> Streams
-    ensures { λ r. ⌜ (r .waiting ≤ length (now (output .entry)))
+    ensures { λ r. ⌜ RoomMade streams (now (output .entry)) room r
+        × (r .waiting ≤ length (now (output .entry)))
         × (room ≤ length (now (output .entry)) → r .waiting + room ≤ length (now (output .entry))) ⌝ }
 {
     let text = streams.waiting;
@@ -142,19 +156,25 @@ pub fn make_room(streams: Streams, output: &[u8], room: usize) -> Streams
     streams
 }
 
+// How much text waits with so much more.
+fn waiting_after(waiting: usize, output: &[u8], count: usize) -> usize
+    ensures { λ r. ⌜ r ≡ waitingAfter waiting (now (output .entry)) count ⌝ }
+{
+    if output.len() < waiting {
+        return 0;
+    }
+    if output.len() - waiting < count {
+        return waiting;
+    }
+    waiting + count
+}
+
 // So much more text waits, which the program has put behind what waited.
 pub fn add_waiting(streams: Streams, output: &[u8], count: usize) -> Streams
-    ensures { λ r. ⌜ (r .waiting ≤ length (now (output .entry)))
-        × (streams .waiting + count ≤ length (now (output .entry)) → r .waiting ≡ streams .waiting + count) ⌝ }
+    ensures { λ r. ⌜ r ≡ withWaiting streams (waitingAfter (streams .waiting) (now (output .entry)) count) (streams .taken) ⌝ }
 {
-    let before = streams.waiting;
-    if output.len() < before {
-        return flush(streams, output);
-    }
-    if output.len() - before < count {
-        return streams;
-    }
+    let waiting = streams.waiting;
     let mut after = streams;
-    after.waiting = before + count;
+    after.waiting = waiting_after(waiting, output, count);
     after
 }

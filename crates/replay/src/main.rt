@@ -385,17 +385,11 @@ fn perform_characters(progress: Progress, kept: &mut [u8]) -> Step
     perform_line(progress.held, line, kept)
 }
 
-// Whether the line is whole: a newline ends it, and the end of input a line that has characters.
-fn is_whole(progress: Progress) -> bool {
-    let streams = progress.streams;
-    streams.ends | (!streams.found & (0 < progress.characters))
-}
-
 // Answers the line if it is whole.
 fn answer_line(progress: Progress, kept: &mut [u8], output: &mut [u8]) -> Progress
     requires { ⌜ 17408 + progress .characters ≤ length (now kept) ⌝ }
 {
-    if is_whole(progress) {
+    if lines::is_whole(progress.streams, progress.characters) {
         let step = perform_characters(progress, kept);
         return write_step(progress, step, kept, output);
     }

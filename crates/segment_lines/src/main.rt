@@ -4,7 +4,6 @@ use lines::Streams;
 use transactions::TransactionNumber;
 ghost use Prim.Native.Nat.{_≤_};
 ghost use lib.ListN.{length};
-ghost use Rattle.segment_lines.specs.Progress.{Kept};
 
 // How far the program has come.
 struct Progress {
@@ -15,15 +14,29 @@ struct Progress {
     number: TransactionNumber,
 }
 
+// Reads on as far as a line's end, or the end of what is there. A line that fills its buffer is longer than any message, and refused whatever
+// follows.
+fn read_on(progress: Progress, input: &mut [u8], line: &mut [u8], output: &[u8]) -> Progress
+    ensures { λ r. ⌜ r .held ≤ length (now (line .exit)) ⌝ }
+{
+    let streams = lines::next_piece(progress.streams, input, output);
+    let from = streams.from;
+    let to = streams.to;
+    let number = progress.number;
+    Progress {
+        streams: streams,
+        held: line_buffer::hold(line, progress.held, &input[from..to]),
+        number: number,
+    }
+}
+
 // Ends the line: its text waits in the output, which has room for any.
 fn end_line(progress: Progress, line: &[u8], output: &mut [u8]) -> Progress
     requires { ⌜ progress .held ≤ length (now line) ⌝ }
-    ensures { λ r. ⌜ Kept r (now (line .entry)) (now (output .exit)) ⌝ }
 {
     let held = progress.held;
     let number = progress.number;
-    let before = progress.streams;
-    let streams = lines::make_room(before, output, hex_lines::MOST);
+    let streams = lines::make_room(progress.streams, output, hex_lines::MOST);
     let waiting = streams.waiting;
     let answer = hex_lines::write_line(number, &line[0..held], &mut output[waiting..]);
     let LineWritten::Text { length, next } = answer else {
@@ -34,71 +47,39 @@ fn end_line(progress: Progress, line: &[u8], output: &mut [u8]) -> Progress
             number: number,
         };
     };
-    let after = lines::add_waiting(streams, output, length);
     Progress {
-        streams: after,
+        streams: lines::add_waiting(streams, output, length),
         held: 0,
         number: next,
     }
 }
 
-// A piece of the input comes. A line that fills its buffer is longer than any message, and refused whatever follows.
-fn take_piece(
-    progress: Progress,
-    streams: Streams,
-    piece: &[u8],
-    line: &mut [u8],
-    output: &mut [u8],
-) -> Progress
-    requires { ⌜ streams .waiting ≤ length (now output) ⌝ }
-    ensures { λ r. ⌜ Kept r (now (line .exit)) (now (output .exit)) ⌝ }
-{
-    let held = line_buffer::hold(line, progress.held, piece);
-    let number = progress.number;
-    let after = Progress {
-        streams: streams,
-        held: held,
-        number: number,
-    };
-    if streams.ends {
-        return end_line(after, line, output);
+fn take_turn(progress: Progress, input: &mut [u8], line: &mut [u8], output: &mut [u8]) -> Progress {
+    let read = read_on(progress, input, line, output);
+    if lines::is_whole(read.streams, read.held) {
+        return end_line(read, line, output);
     }
-    after
+    read
 }
 
 fn run(input: &mut [u8], line: &mut [u8], output: &mut [u8]) {
-    let streams = lines::start();
     let mut progress = Progress {
-        streams: streams,
+        streams: lines::start(),
         held: 0,
         number: TransactionNumber(0),
     };
     // Nothing says that the input ends, so the turns are counted down from a number that no run uses up.
     let mut turns = u64::MAX;
     while turns > 0 {
-        let before = progress.streams;
-        let streams = lines::next_piece(before, input, output);
-        let from = streams.from;
-        let to = streams.to;
-        progress = take_piece(progress, streams, &input[from..to], line, output);
+        progress = take_turn(progress, input, line, output);
+        let streams = progress.streams;
         if streams.found {
             turns -= 1;
         } else {
             turns = 0;
         }
     }
-    finish(progress, line, output);
-}
-
-// The end of input ends a line that has characters.
-fn finish(progress: Progress, line: &[u8], output: &mut [u8])
-    requires { ⌜ Kept progress (now line) (now output) ⌝ }
-{
-    if 0 < progress.held {
-        let last = end_line(progress, line, output);
-        let streams = last.streams;
-        lines::flush(streams, output);
-    }
+    lines::flush(progress.streams, output);
 }
 
 fn main() {

@@ -1,6 +1,7 @@
 use borrow.Author.Needs.{needs}
 use lib.Seq.{length-take-le}
-use mathlib.Core.Path.{sym}
+use mathlib.Core.Bool.{false≢true}
+use mathlib.Core.Path.{refl, sym, _∙_}
 use native.Mathlib.Omega.{arith}
 use Rattle.lines.proofs.flush.Statement.{statement}
 use Rattle.lines.proofs.flush.Tie as tie
@@ -17,7 +18,7 @@ write-all-requires : tie.Need-write-all-requires
 write-all-requires c κs = search needs
 
 returns-2 : tie.Need-returns-2
-returns-2 c = search needs
+returns-2 c = (record { emptied = refl; untaken = λ e. absurd (false≢true (sym e ∙ c .before .before .if2 .taken)) }, refl)
 
 returns-3 : tie.Need-returns-3
 returns-3 c = search needs

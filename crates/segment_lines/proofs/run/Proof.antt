@@ -1,15 +1,12 @@
 use borrow.Author.Needs.{needs}
 use lib.ListN.{length}
-use mathlib.Core.Path.{_≡_, refl, ap}
-use native.Mathlib.Omega.{arith}
-use Rattle.lines.specs.declared.Streams.{Streams}
-use Rattle.segment_lines.specs.Progress.{Kept}
+use mathlib.Core.Path.{_≡_}
 use Rattle.segment_lines.proofs.run.Statement.{statement}
 use Rattle.segment_lines.proofs.run.Tie as tie
 
 abbrev Inv-loop : tie.InvT-loop
 Inv-loop input₀ line₀ output₀ progress₀ turns₀ input line output progress turns =
-    (length input ≡ length input₀) × (length line ≡ length line₀) × (length output ≡ length output₀) × Kept progress line output
+    (length input ≡ length input₀) × (length line ≡ length line₀) × (length output ≡ length output₀)
 
 abbrev μ-loop : tie.MeasureT-loop
 μ-loop input₀ line₀ output₀ progress₀ turns₀ input line output progress turns = turns
@@ -18,24 +15,10 @@ start-requires : tie.Need-start-requires Inv-loop μ-loop
 start-requires c κs = search needs
 
 loop-holds : tie.Need-loop-holds Inv-loop μ-loop
-loop-holds c =
-    let none = ap (λ (s : Streams). s .waiting) (c .start .ensures) in
-    (refl, refl, refl, record { line-fits = omega arith; output-fits = omega (arith, none) })
+loop-holds c = search needs
 
-next-piece-requires : tie.Need-next-piece-requires Inv-loop μ-loop
-next-piece-requires c κs = search needs
-
-sub-take-piece : tie.Need-sub-take-piece Inv-loop μ-loop
-sub-take-piece c = search needs
-
-part-take-piece-start : tie.Need-part-take-piece-start Inv-loop μ-loop
-part-take-piece-start c = search needs
-
-part-take-piece-end : tie.Need-part-take-piece-end Inv-loop μ-loop
-part-take-piece-end c = search needs
-
-take-piece-requires : tie.Need-take-piece-requires Inv-loop μ-loop
-take-piece-requires c κs = search needs
+take-turn-requires : tie.Need-take-turn-requires Inv-loop μ-loop
+take-turn-requires c κs = search needs
 
 sub-turns : tie.Need-sub-turns Inv-loop μ-loop
 sub-turns c = search needs
@@ -52,8 +35,8 @@ loop-less-2 c = search needs
 loop-again-2 : tie.Need-loop-again-2 Inv-loop μ-loop
 loop-again-2 c = search needs
 
-finish-requires : tie.Need-finish-requires Inv-loop μ-loop
-finish-requires c κs = search needs
+flush-requires : tie.Need-flush-requires Inv-loop μ-loop
+flush-requires c κs = search needs
 
 same-length : tie.Need-same-length Inv-loop μ-loop
 same-length c = search needs
@@ -75,17 +58,13 @@ run-spec =
     μ-loop
     start-requires
     loop-holds
-    next-piece-requires
-    sub-take-piece
-    part-take-piece-start
-    part-take-piece-end
-    take-piece-requires
+    take-turn-requires
     sub-turns
     loop-less
     loop-again
     loop-less-2
     loop-again-2
-    finish-requires
+    flush-requires
     same-length
     same-length-2
     same-length-3

@@ -1,0 +1,86 @@
+-- The laws of pieces of input, and of text that waits.
+use Prim.Native.Nat.{ℕ, suc, _≤_, _<_}
+use native.Mathlib.Omega.{arith}
+use mathlib.Core.Bool.{true, false, _&&_, false≢true, and-eq-true-iff}
+use mathlib.Core.List.{List}
+use mathlib.Core.Path.{_≡_, refl, sym, ap, _∙_, subst}
+use lib.ListN.{length, take, getD, drop-of-length-le}
+use lib.Seq.{length-take-le, drop-cons, getD-take}
+use borrow.Author.Tests.{ne-eqb, leb-true, ltb-true}
+use Rattle.lines.specs.declared.Streams.{Streams}
+use Rattle.lines.specs.Streams.{newlineFrom, pieceFrom, nextPlace, Within, Flushed, hasRoom, RoomMade, isLeft, Read, Found}
+
+-- ---- the place of the first newline
+
+module _ (input : List ℕ) (filled : ℕ) (fits : filled ≤ length input) where
+  all-filled : length (take filled input) ≡ filled
+  all-filled = length-take-le filled input fits
+
+  -- it is here
+  pub newline-here : (at : ℕ) → at < filled → getD input at 0 ≡ 10 → newlineFrom input at filled ≡ at
+  unfolding newlineFrom
+  newline-here at h e =
+      rw (drop-cons (take filled input) at 0 (omega (arith, all-filled)), getD-take filled input at 0 h, e) (omega arith)
+
+  -- it is further on
+  pub newline-on : (at : ℕ) → at < filled → (getD input at 0 ≡ 10 → ⊥) → newlineFrom input (suc at) filled ≡ newlineFrom input at filled
+  unfolding newlineFrom
+  newline-on at h n =
+      rw (drop-cons (take filled input) at 0 (omega (arith, all-filled)), getD-take filled input at 0 h, ne-eqb (getD input at 0) 10 n) (omega arith)
+
+  -- there is none
+  pub newline-none : newlineFrom input filled filled ≡ filled
+  unfolding newlineFrom
+  newline-none = rw (drop-of-length-le (take filled input) {i = filled} (omega (arith, all-filled))) (omega arith)
+
+-- ---- pieces
+
+pub piece-within : (s r : Streams) (input output : List ℕ) (from filled : ℕ) → r ≡ pieceFrom s input from filled
+    → from ≤ r .to → r .to ≤ filled → filled ≤ length input → s .waiting ≤ length output → Within r input output
+piece-within s r input output from filled e some few fits waits = record {
+  piece = rw (ap (λ (x : Streams). x .from) e) some;
+  input-fits = omega arith;
+  output-fits = rw (ap (λ (x : Streams). x .waiting) e) waits;
+}
+
+-- the first piece of what was read
+pub piece-read : (s f r : Streams) (after : List ℕ) (filled : ℕ) → Flushed s f → (f .taken ≡ false → filled ≡ 0) → r ≡ pieceFrom f after 0 filled
+    → Read s r after
+piece-read s f r after filled x none e =
+    subst (λ (r : Streams). Read s r after) (sym e) record {
+      first = λ i. record {
+        from = 0;
+        to = newlineFrom after 0 filled;
+        ends = pieceFrom f after 0 filled .ends;
+        filled = filled;
+        found = pieceFrom f after 0 filled .found;
+        waiting = (x .emptied) i .waiting;
+        taken = f .taken;
+      };
+      untaken = x .untaken;
+      unread = none;
+    }
+
+-- ---- the next piece
+
+module _ (s : Streams) (input output : List ℕ) where
+  pub left-fits : isLeft s input output ≡ true → (s .filled ≤ length input) × (s .waiting ≤ length output) × (nextPlace s < s .filled)
+  left-fits e =
+      let p = and-eq-true-iff _ _ .0 e in
+      let q = and-eq-true-iff _ _ .0 (p .1) in
+      (leb-true _ _ (p .0), leb-true _ _ (q .0), ltb-true _ _ (q .1))
+
+  pub found-left : (r : Streams) → isLeft s input output ≡ true → r ≡ pieceFrom s input (nextPlace s) (s .filled) → Found s input output r input
+  found-left r e x = record { left = λ _. (x, refl); read = λ n. absurd (false≢true (sym n ∙ e)) }
+
+  pub found-read : (r : Streams) (after : List ℕ) → isLeft s input output ≡ false → Read s r after → Found s input output r after
+  found-read r after e x = record { left = λ y. absurd (false≢true (sym e ∙ y)); read = λ _. x }
+
+-- ---- room
+
+module _ (s : Streams) (output : List ℕ) (room : ℕ) where
+  pub room-enough : hasRoom s output room ≡ true → RoomMade s output room s
+  room-enough e = record { enough = λ _. refl; less = λ n. absurd (false≢true (sym n ∙ e)) }
+
+  pub room-less : (r : Streams) → hasRoom s output room ≡ false → Flushed s r → RoomMade s output room r
+  room-less r e x = record { enough = λ y. absurd (false≢true (sym e ∙ y)); less = λ _. x }
