@@ -1,4 +1,5 @@
--- The length of a line's text, what the reading of a line tells, and two promises: MOST octets are enough, and a refusal leaves the output as it was.
+-- The length of a line's text, what the reading of a line tells, and three promises: MOST octets are enough, a refusal leaves the output as it was,
+-- and the front of a long line does what the line does.
 use Prim.Native.Nat.{ℕ, zero, suc, _+_, _*_, _-_, _/_, _%_, _≤_, _<_, min}
 use native.Mathlib.Nat.{zero-add, sub-zero}
 use native.Mathlib.Numerals.{add-one}
@@ -8,6 +9,7 @@ use mathlib.Core.List.{List, [], _∷_, _++_, map-map}
 use mathlib.Core.Path.{_≡_, refl, sym, ap, _∙_}
 use lib.Dec.{leb, eqb}
 use lib.ListN.{length, take, set, replicate, length-append}
+use lib.Seq.{length-take-le, take-all}
 use borrow.Author.Tests.{leb-true, leb-false, eqb-true, le-leb, lt-leb}
 use Rattle.octets.specs.Parts.{write, copyFits, copied}
 use Rattle.octets.specs.Cut.{upTo, joined}
@@ -26,7 +28,7 @@ use Rattle.pb_adv_writing.specs.Writing.{segmentFrame, headerOf, isSegment, Seg
 use Rattle.transactions.specs.declared.TransactionNumber.{TransactionNumber}
 use Rattle.transactions.proofs.Laws.{segN-small, segN-enough, segment-begins}
 use Rattle.pb_adv_writing.proofs.Laws.{frame-long}
-use Rattle.hex_lines.specs.Lines.{isMessage, frameLine, messageText, refusedText, lineText, told, textWritten, textOutput, lineWritten, lineOutput}
+use Rattle.hex_lines.specs.Lines.{isMessage, frameLine, messageText, refusedText, lineText, lineNext, told, textWritten, textOutput, lineWritten, lineOutput}
 use Rattle.hex_lines.specs.Steps.{segmentLine, firstLines}
 use Rattle.hex_lines.specs.declared.LineWritten.the-variants.{Text, OutputTooShort}
 
@@ -214,6 +216,21 @@ unfolding textWritten textOutput
 refusal-keeps t line output n =
     cases (leb (length (lineText t line)) (length output))
     (λ e. rw e (λ q. let z : _≡_ {A = ℕ} 0 1 = cc in absurd (omega arith))) (λ e. rw e (λ q. refl))
+
+-- a line longer than any message is none
+long-none : (line : List ℕ) → 2938 < length line → isMessage line ≡ false
+long-none line h =
+    cases (isHexadecimal line) (λ e. rw (e, le-leb 2 (length line) (omega arith), lt-leb (length line) 2938 h)) (λ e. rw e)
+
+-- so the first 2,939 characters of a line, which is all that the program holds, do what the line does
+pub front-does-the-same : (t : TransactionNumber) (line : List ℕ)
+    → (lineText t (take 2939 line) ≡ lineText t line) × (lineNext t (take 2939 line) ≡ lineNext t line)
+unfolding lineText lineNext
+front-does-the-same t line =
+    cases (leb (length line) 2939)
+    (λ e. rw (take-all 2939 line (leb-true (length line) 2939 e)) (refl, refl))
+    (λ e. let long = leb-false (length line) 2939 e in
+    rw (long-none line (omega arith), long-none (take 2939 line) (omega (arith, length-take-le 2939 line (omega arith)))) (refl, refl))
 
 -- a text that was written is within the output
 pub text-within : (t : TransactionNumber) (line output : List ℕ) (n : ℕ) (next : TransactionNumber) → lineWritten t line output ≡ Text n next → n ≤ length output

@@ -8,7 +8,7 @@ use mathlib.Core.List.{List, [], _∷_, _++_, append-assoc, append-nil}
 use mathlib.Core.Path.{_≡_, refl, sym, ap, _∙_}
 use lib.Dec.{eqb}
 use lib.ListN.{length, take, drop, set, getD, length-append, length-drop, take-append-drop, drop-of-length-le}
-use lib.Seq.{take-append-le, take-take, take-at, drop-at, drop-drop, take-add, length-take-le, set-at, drop-cons, append-snoc, take-nil, take-length}
+use lib.Seq.{take-append-le, take-take, take-at, drop-at, drop-drop, take-add, length-take-le, set-at, drop-cons, append-snoc, take-nil, take-length, take-all}
 use borrow.Author.Tests.{le-leb, eq-eqb}
 use Rattle.octets.specs.Parts.{part, write, copied, same, samePart}
 
@@ -95,6 +95,15 @@ unfolding write
 write-next l at d e h =
     let n : at + length (d ++ e) ≡ at + length d + length e = omega (arith, length-append d e) in
     rw (write-front l at d h, write-drop l at d h (at + length d + length e) (omega arith), n) (rw (append-assoc (take at l) d e))
+
+-- a write at the start of what lies behind a place, back in its place
+pub write-behind : (l : List ℕ) (at : ℕ) (d : List ℕ) → at + length d ≤ length l
+    → take at l ++ (write (part l at (length l - at)) 0 d ++ drop (length l - at) (drop at l)) ≡ write l at d
+unfolding write
+write-behind l at d h =
+    let behind = length-drop at l in
+    rw (take-all (length l - at) (drop at l) (omega arith), drop-of-length-le (drop at l) {i = length l - at} (omega arith), zero-add, append-nil (d ++ drop (length d) (drop at l)), drop-drop (length d) at l)
+    (sym (append-assoc (take at l) d (drop (at + length d) l)))
 
 -- one octet more, after a write
 pub write-octet : (l : List ℕ) (at : ℕ) (d : List ℕ) (x : ℕ) → at + length d < length l → set (write l at d) (at + length d) x ≡ write l at (d ++ (x ∷ []))

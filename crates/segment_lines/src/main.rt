@@ -4,6 +4,7 @@ use lines::Streams;
 use transactions::TransactionNumber;
 ghost use Prim.Native.Nat.{_≤_};
 ghost use lib.ListN.{length};
+ghost use Rattle.segment_lines.specs.Turns.{PieceHeld, LineEnded, Turn};
 
 // How far the program has come.
 struct Progress {
@@ -17,7 +18,8 @@ struct Progress {
 // Reads on as far as a line's end, or the end of what is there. A line that fills its buffer is longer than any message, and refused whatever
 // follows.
 fn read_on(progress: Progress, input: &mut [u8], line: &mut [u8], output: &[u8]) -> Progress
-    ensures { λ r. ⌜ r .held ≤ length (now (line .exit)) ⌝ }
+    requires { ⌜ progress .held ≤ length (now line) ⌝ }
+    ensures { λ r. ⌜ PieceHeld progress (now (input .entry)) (now (line .entry)) (now (output .entry)) r (now (input .exit)) (now (line .exit)) ⌝ }
 {
     let streams = lines::next_piece(progress.streams, input, output);
     let from = streams.from;
@@ -32,13 +34,14 @@ fn read_on(progress: Progress, input: &mut [u8], line: &mut [u8], output: &[u8])
 
 // Ends the line: its text waits in the output, which has room for any.
 fn end_line(progress: Progress, line: &[u8], output: &mut [u8]) -> Progress
-    requires { ⌜ progress .held ≤ length (now line) ⌝ }
+    requires { ⌜ (progress .held ≤ length (now line)) × (3776 ≤ length (now output)) ⌝ }
+    ensures { λ r. ⌜ LineEnded progress (now (line .entry)) (now (output .entry)) r (now (output .exit)) ⌝ }
 {
     let held = progress.held;
     let number = progress.number;
     let streams = lines::make_room(progress.streams, output, hex_lines::MOST);
     let waiting = streams.waiting;
-    let answer = hex_lines::write_line(number, &line[0..held], &mut output[waiting..]);
+    let answer = hex_lines::write_line(number, &line[..held], &mut output[waiting..]);
     let LineWritten::Text { length, next } = answer else {
         // Never: the room is enough for any line.
         return Progress {
@@ -54,7 +57,10 @@ fn end_line(progress: Progress, line: &[u8], output: &mut [u8]) -> Progress
     }
 }
 
-fn take_turn(progress: Progress, input: &mut [u8], line: &mut [u8], output: &mut [u8]) -> Progress {
+fn take_turn(progress: Progress, input: &mut [u8], line: &mut [u8], output: &mut [u8]) -> Progress
+    requires { ⌜ (progress .held ≤ length (now line)) × (3776 ≤ length (now output)) ⌝ }
+    ensures { λ r. ⌜ Turn progress (now (input .entry)) (now (line .entry)) (now (output .entry)) r (now (input .exit)) (now (line .exit)) (now (output .exit)) ⌝ }
+{
     let read = read_on(progress, input, line, output);
     if lines::is_whole(read.streams, read.held) {
         return end_line(read, line, output);
@@ -62,7 +68,9 @@ fn take_turn(progress: Progress, input: &mut [u8], line: &mut [u8], output: &mut
     read
 }
 
-fn run(input: &mut [u8], line: &mut [u8], output: &mut [u8]) {
+fn run(input: &mut [u8], line: &mut [u8], output: &mut [u8])
+    requires { ⌜ 3776 ≤ length (now output) ⌝ }
+{
     let mut progress = Progress {
         streams: lines::start(),
         held: 0,

@@ -1,12 +1,17 @@
 use borrow.Author.Needs.{needs}
+use Prim.Native.Nat.{_≤_}
 use lib.ListN.{length}
 use mathlib.Core.Path.{_≡_}
+use Rattle.segment_lines.proofs.Laws.{turn-few}
 use Rattle.segment_lines.proofs.run.Statement.{statement}
 use Rattle.segment_lines.proofs.run.Tie as tie
 
 abbrev Inv-loop : tie.InvT-loop
 Inv-loop input₀ line₀ output₀ progress₀ turns₀ input line output progress turns =
-    (length input ≡ length input₀) × (length line ≡ length line₀) × (length output ≡ length output₀)
+    (length input ≡ length input₀)
+    × (length line ≡ length line₀)
+    × (length output ≡ length output₀)
+    × (progress .held ≤ length line)
 
 abbrev μ-loop : tie.MeasureT-loop
 μ-loop input₀ line₀ output₀ progress₀ turns₀ input line output progress turns = turns
@@ -27,13 +32,13 @@ loop-less : tie.Need-loop-less Inv-loop μ-loop
 loop-less c = search needs
 
 loop-again : tie.Need-loop-again Inv-loop μ-loop
-loop-again c = search needs
+loop-again c = (search needs, search needs, search needs, turn-few (c .before .before .before .before .before .before .before .before .take-turn .ensures))
 
 loop-less-2 : tie.Need-loop-less-2 Inv-loop μ-loop
 loop-less-2 c = search needs
 
 loop-again-2 : tie.Need-loop-again-2 Inv-loop μ-loop
-loop-again-2 c = search needs
+loop-again-2 c = (search needs, search needs, search needs, turn-few (c .before .before .before .before .before .before .before .before .take-turn .ensures))
 
 flush-requires : tie.Need-flush-requires Inv-loop μ-loop
 flush-requires c κs = search needs

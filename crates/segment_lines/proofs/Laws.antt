@@ -1,0 +1,57 @@
+-- A line's text behind what waits, and what a turn leaves of the line.
+use Prim.Native.Nat.{ℕ, _+_, _-_, _≤_}
+use native.Mathlib.Omega.{arith}
+use mathlib.Core.List.{List, _++_}
+use mathlib.Core.Path.{_≡_, refl, sym, ap, _∙_}
+use lib.ListN.{length, take, drop}
+use borrow.Author.Tests.{le-leb}
+use Rattle.octets.specs.Parts.{part, write}
+use Rattle.octets.proofs.Tests.{cases}
+use Rattle.octets.proofs.Parts.{part-length, write-behind}
+use Rattle.transactions.specs.declared.TransactionNumber.{TransactionNumber}
+use Rattle.hex_lines.specs.Lines.{lineText, lineNext, lineWritten, lineOutput}
+use Rattle.hex_lines.specs.declared.LineWritten.{LineWritten}
+use Rattle.hex_lines.specs.declared.LineWritten.the-variants.{Text, OutputTooShort}
+use Rattle.hex_lines.proofs.Laws.{enough, text-fits}
+use Rattle.lines.specs.Streams.{waitingAfter, isWhole}
+use Rattle.segment_lines.specs.declared.Progress.{Progress}
+use Rattle.segment_lines.specs.Turns.{Turn}
+
+module _ (number : TransactionNumber) (held output : List ℕ) (at : ℕ) (fits : at + 3776 ≤ length output) where
+  -- what lies behind the text that waits
+  abbrev pub behind : List ℕ
+  behind = part output at (length output - at)
+
+  abbrev pub text : List ℕ
+  text = lineText number held
+
+  short : length text ≤ 3776
+  short = enough number held
+
+  behind-long : length behind ≡ length output - at
+  behind-long = part-length output at (length output - at) (omega arith)
+
+  pub text-written : lineWritten number held behind ≡ Text (length text) (lineNext number held)
+  text-written = sym (text-fits text behind (lineNext number held) (omega (arith, short, behind-long)) .0)
+
+  pub text-never : lineWritten number held behind ≡ OutputTooShort → ⊥
+  text-never e = let z : _≡_ {A = ℕ} 0 1 = cc text-written in omega arith
+
+  pub text-counts : {n : ℕ} {next : TransactionNumber} → lineWritten number held behind ≡ Text n next → (n ≡ length text) × (next ≡ lineNext number held)
+  text-counts e = (cc text-written, cc text-written)
+
+  pub text-put : take at output ++ (lineOutput number held behind ++ drop (length output - at) (drop at output)) ≡ write output at text
+  text-put =
+      rw (← (text-fits text behind (lineNext number held) (omega (arith, short, behind-long)) .1)) (write-behind output at text (omega (arith, short)))
+
+  pub text-waits : (after : List ℕ) → length after ≡ length output → waitingAfter at after (length text) ≡ at + length text
+  unfolding waitingAfter
+  text-waits after e = rw (e, le-leb at (length output) (omega arith), le-leb (length text) (length output - at) (omega (arith, short)))
+
+-- after a turn the line's buffer holds no more than it has room for
+pub turn-few : {p : Progress} {input line output : List ℕ} {r : Progress} {inputAfter lineAfter outputAfter : List ℕ}
+    → Turn p input line output r inputAfter lineAfter outputAfter → r .held ≤ length lineAfter
+turn-few t =
+    cases (isWhole (t .read .streams) (t .read .held))
+    (λ e. let n = t .whole e .none in omega arith)
+    (λ e. rw (t .begun e .0) (t .piece .few))
