@@ -5,12 +5,20 @@ use import_tray::Tray;
 use lines::Streams;
 use octets::Written;
 use transactions::Socket;
+ghost use mathlib.Core.Bool.{false};
 ghost use mathlib.Core.Path.{_≡_};
 ghost use Prim.Native.Nat.{_≤_};
+ghost use lib.ListN.{length, replicate};
+ghost use Rattle.octets.specs.Parts.{write};
+ghost use Rattle.links.specs.Links.{blank};
+ghost use Rattle.links.specs.declared.Side.the-variants.{Provisioner};
+ghost use Rattle.lines.specs.Streams.{TextWaits};
+ghost use Rattle.stock_record.specs.Texts.{headerLine};
+ghost use Rattle.import_tray.specs.Awaited.{trayOf, missingText};
 ghost use Rattle.held_line.specs.Held.{heldFrom};
 ghost use Rattle.import_lines.specs.Lines.{lineStep, lineArea};
 ghost use Rattle.import_lines.specs.Steps.{importedOf, areaAfter, outputAfter};
-ghost use Rattle.import_capabilities.specs.Held.{heldText};
+ghost use Rattle.import_capabilities.specs.Turns.{heldText, nextNumber, waitingWith, PieceHeld, LineEnded, Turn, Missing};
 
 // The line so far, in such a shape that it is imported as the whole line would be.
 struct Line {
@@ -37,7 +45,9 @@ fn empty_line() -> Line
     }
 }
 
-fn next_number(number: u64) -> u64 {
+fn next_number(number: u64) -> u64
+    ensures { λ r. ⌜ r ≡ nextNumber number ⌝ }
+{
     if number < u64::MAX {
         number + 1
     } else {
@@ -46,7 +56,9 @@ fn next_number(number: u64) -> u64 {
 }
 
 // The text at the end of what waited waits too.
-fn waits(streams: Streams, answer: Written, output: &[u8]) -> Streams {
+fn waits(streams: Streams, answer: Written, output: &[u8]) -> Streams
+    ensures { λ r. ⌜ r ≡ waitingWith streams answer (now (output .entry)) ⌝ }
+{
     let Written::Count(n) = answer else {
         // Never: room was made for any text.
         return streams;
@@ -75,7 +87,7 @@ fn hold_piece(line: Line, piece: &[u8]) -> Line
 // Reads on as far as a line's end, or the end of what is there.
 fn read_on(progress: Progress, input: &mut [u8], output: &[u8]) -> Progress
     requires { ⌜ progress .line .count ≤ 64 ⌝ }
-    ensures { λ r. ⌜ r .line .count ≤ 64 ⌝ }
+    ensures { λ r. ⌜ PieceHeld progress (now (input .entry)) (now (output .entry)) r (now (input .exit)) ⌝ }
 {
     let streams = lines::next_piece(progress.streams, input, output);
     let from = streams.from;
@@ -100,8 +112,8 @@ fn import_held(tray: Tray, area: &mut [u8], number: u64, line: Line, output: &mu
 
 // Ends the line: its text waits in the output.
 fn end_line(progress: Progress, area: &mut [u8], output: &mut [u8]) -> Progress
-    requires { ⌜ progress .line .count ≤ 64 ⌝ }
-    ensures { λ r. ⌜ r .line .count ≡ 0 ⌝ }
+    requires { ⌜ (progress .line .count ≤ 64) × (231 ≤ length (now output)) ⌝ }
+    ensures { λ r. ⌜ LineEnded progress (now (area .entry)) (now (output .entry)) r (now (area .exit)) (now (output .exit)) ⌝ }
 {
     let number = next_number(progress.number);
     let streams = lines::make_room(progress.streams, output, line_fields::MOST);
@@ -124,8 +136,8 @@ fn end_line(progress: Progress, area: &mut [u8], output: &mut [u8]) -> Progress
 }
 
 fn take_turn(progress: Progress, input: &mut [u8], area: &mut [u8], output: &mut [u8]) -> Progress
-    requires { ⌜ progress .line .count ≤ 64 ⌝ }
-    ensures { λ r. ⌜ r .line .count ≤ 64 ⌝ }
+    requires { ⌜ (progress .line .count ≤ 64) × (231 ≤ length (now output)) ⌝ }
+    ensures { λ r. ⌜ Turn progress (now (input .entry)) (now (area .entry)) (now (output .entry)) r (now (input .exit)) (now (area .exit)) (now (output .exit)) ⌝ }
 {
     let read = read_on(progress, input, output);
     let line = read.line;
@@ -137,7 +149,10 @@ fn take_turn(progress: Progress, input: &mut [u8], area: &mut [u8], output: &mut
 
 // The header is the first line, always.
 fn begin(output: &mut [u8]) -> Progress
-    ensures { λ r. ⌜ r .line .count ≡ 0 ⌝ }
+    ensures { λ r. ⌜ (r .line .count ≡ 0)
+        × (r .number ≡ 0)
+        × (r .tray ≡ trayOf (replicate 8 (blank Provisioner)) (replicate 8 false))
+        × (231 ≤ length (now (output .entry)) → (r .streams .waiting ≡ length headerLine) × (now (output .exit) ≡ write (now (output .entry)) 0 headerLine)) ⌝ }
 {
     let answer = stock_record::write_header(output);
     Progress {
@@ -149,14 +164,20 @@ fn begin(output: &mut [u8]) -> Progress
 }
 
 // The line of a socket whose record is missing.
-fn put_missing(tray: Tray, socket: u8, before: Streams, output: &mut [u8]) -> Streams {
+fn put_missing(tray: Tray, socket: u8, before: Streams, output: &mut [u8]) -> Streams
+    requires { ⌜ 231 ≤ length (now output) ⌝ }
+    ensures { λ r. ⌜ TextWaits before (now (output .entry)) 231 (missingText tray (record { 0 = socket })) r (now (output .exit)) ⌝ }
+{
     let streams = lines::make_room(before, output, line_fields::MOST);
     let waiting = streams.waiting;
     let answer = import_tray::missing_line(tray, Socket(socket), &mut output[waiting..]);
     waits(streams, answer, output)
 }
 
-fn put_all_missing(tray: Tray, before: Streams, output: &mut [u8]) -> Streams {
+fn put_all_missing(tray: Tray, before: Streams, output: &mut [u8]) -> Streams
+    requires { ⌜ 231 ≤ length (now output) ⌝ }
+    ensures { λ r. ⌜ Missing tray before (now (output .entry)) 8 r (now (output .exit)) ⌝ }
+{
     let mut streams = before;
     let mut socket: u8 = 1;
     while socket <= 8 {
@@ -166,7 +187,9 @@ fn put_all_missing(tray: Tray, before: Streams, output: &mut [u8]) -> Streams {
     streams
 }
 
-fn run(input: &mut [u8], area: &mut [u8], output: &mut [u8]) {
+fn run(input: &mut [u8], area: &mut [u8], output: &mut [u8])
+    requires { ⌜ 231 ≤ length (now output) ⌝ }
+{
     let mut progress = begin(output);
     // Nothing says that the input ends, so the turns are counted down from a number that no run uses up.
     let mut turns = u64::MAX;

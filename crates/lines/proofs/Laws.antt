@@ -1,14 +1,16 @@
 -- The laws of pieces of input, and of text that waits.
-use Prim.Native.Nat.{ℕ, suc, _≤_, _<_}
+use Prim.Native.Nat.{ℕ, suc, _+_, _-_, _≤_, _<_}
 use native.Mathlib.Omega.{arith}
 use mathlib.Core.Bool.{true, false, _&&_, false≢true, and-eq-true-iff}
-use mathlib.Core.List.{List}
+use mathlib.Core.List.{List, _++_}
 use mathlib.Core.Path.{_≡_, refl, sym, ap, _∙_, subst}
-use lib.ListN.{length, take, getD, drop-of-length-le}
+use lib.ListN.{length, take, drop, getD, drop-of-length-le}
 use lib.Seq.{length-take-le, drop-cons, getD-take}
-use borrow.Author.Tests.{ne-eqb, leb-true, ltb-true}
+use borrow.Author.Tests.{le-leb, ne-eqb, leb-true, ltb-true}
+use Rattle.octets.specs.Parts.{part, write}
+use Rattle.octets.proofs.Parts.{write-length, write-behind}
 use Rattle.lines.specs.declared.Streams.{Streams}
-use Rattle.lines.specs.Streams.{newlineFrom, pieceFrom, nextPlace, Within, Flushed, hasRoom, RoomMade, isLeft, Read, Found}
+use Rattle.lines.specs.Streams.{newlineFrom, pieceFrom, nextPlace, Within, withWaiting, Flushed, hasRoom, RoomMade, waitingAfter, TextWaits, isLeft, Read, Found}
 
 -- ---- the place of the first newline
 
@@ -84,3 +86,28 @@ module _ (s : Streams) (output : List ℕ) (room : ℕ) where
 
   pub room-less : (r : Streams) → hasRoom s output room ≡ false → Flushed s r → RoomMade s output room r
   room-less r e x = record { enough = λ y. absurd (false≢true (sym e ∙ y)); less = λ _. x }
+
+-- ---- a text that waits
+
+pub waits-too : (waiting : ℕ) (output : List ℕ) (count : ℕ) → waiting + count ≤ length output → waitingAfter waiting output count ≡ waiting + count
+unfolding waitingAfter
+waits-too waiting output count h = rw (le-leb waiting (length output) (omega arith), le-leb count (length output - waiting) (omega arith))
+
+-- a text at the start of what lies behind what waits, back in its place, and so much more text waiting
+module _ (s before r : Streams) (output : List ℕ) (room : ℕ) (text : List ℕ) where
+  abbrev pub putBack : List ℕ
+  putBack =
+      take (before .waiting) output
+      ++ (write (part output (before .waiting) (length output - before .waiting)) 0 text ++ drop (length output - before .waiting) (drop (before .waiting) output))
+
+  pub text-waits : RoomMade s output room before → before .waiting + length text ≤ length output
+      → r ≡ withWaiting before (waitingAfter (before .waiting) putBack (length text)) (before .taken) → TextWaits s output room text r putBack
+  text-waits made fits e =
+      let put : putBack ≡ write output (before .waiting) text = write-behind output (before .waiting) text fits in
+      let long : length putBack ≡ length output = ap length put ∙ write-length output (before .waiting) text fits in
+      record {
+        before = before;
+        made = made;
+        put = put;
+        waits = e ∙ ap (λ (k : ℕ). withWaiting before k (before .taken)) (waits-too (before .waiting) putBack (length text) (omega arith));
+      }

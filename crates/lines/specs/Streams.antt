@@ -6,6 +6,7 @@ use mathlib.Core.List.{List, [], _∷_}
 use mathlib.Core.Path.{_≡_}
 use lib.Dec.{leb, ltb, eqb}
 use lib.ListN.{length, take, drop}
+use Rattle.octets.specs.Parts.{part, write}
 use Rattle.lines.specs.declared.Streams.{Streams}
 
 -- ---- the input
@@ -30,6 +31,10 @@ pieceFrom s input from filled = record {
   waiting = s .waiting;
   taken = s .taken;
 }
+
+-- the piece found last
+abbrev pub pieceIn : Streams → List ℕ → List ℕ
+pieceIn s input = part input (s .from) (s .to - s .from)
 
 -- where the piece after the last one begins: behind the newline that ended it
 abbrev pub nextPlace : Streams → ℕ
@@ -63,6 +68,13 @@ pub record RoomMade (s : Streams) (output : List ℕ) (room : ℕ) (r : Streams)
 -- what waits with so much more text; as much as before where that is past the output's end, and nothing where what waited was past it
 unfoldable pub waitingAfter : ℕ → List ℕ → ℕ → ℕ
 waitingAfter waiting output count = cond (leb waiting (length output)) (cond (leb count (length output - waiting)) (waiting + count) waiting) 0
+
+-- a text put behind what waits, room made for it before
+pub record TextWaits (s : Streams) (output : List ℕ) (room : ℕ) (text : List ℕ) (r : Streams) (after : List ℕ) : Type 0 where
+  pub before : Streams
+  pub made : RoomMade s output room before
+  pub put : after ≡ write output (before .waiting) text
+  pub waits : r ≡ withWaiting before (before .waiting + length text) (before .taken)
 
 -- ---- the next piece
 

@@ -1,19 +1,17 @@
 -- A line's text behind what waits, and what a turn leaves of the line.
 use Prim.Native.Nat.{ℕ, _+_, _-_, _≤_}
 use native.Mathlib.Omega.{arith}
-use mathlib.Core.List.{List, _++_}
-use mathlib.Core.Path.{_≡_, refl, sym, ap, _∙_}
-use lib.ListN.{length, take, drop}
-use borrow.Author.Tests.{le-leb}
+use mathlib.Core.List.{List}
+use mathlib.Core.Path.{_≡_, sym}
+use lib.ListN.{length}
 use Rattle.octets.specs.Parts.{part, write}
 use Rattle.octets.proofs.Tests.{cases}
-use Rattle.octets.proofs.Parts.{part-length, write-behind}
+use Rattle.octets.proofs.Parts.{part-length}
 use Rattle.transactions.specs.declared.TransactionNumber.{TransactionNumber}
 use Rattle.hex_lines.specs.Lines.{lineText, lineNext, lineWritten, lineOutput}
-use Rattle.hex_lines.specs.declared.LineWritten.{LineWritten}
 use Rattle.hex_lines.specs.declared.LineWritten.the-variants.{Text, OutputTooShort}
 use Rattle.hex_lines.proofs.Laws.{enough, text-fits}
-use Rattle.lines.specs.Streams.{waitingAfter, isWhole}
+use Rattle.lines.specs.Streams.{isWhole}
 use Rattle.segment_lines.specs.declared.Progress.{Progress}
 use Rattle.segment_lines.specs.Turns.{Turn}
 
@@ -40,13 +38,11 @@ module _ (number : TransactionNumber) (held output : List ℕ) (at : ℕ) (fits 
   pub text-counts : {n : ℕ} {next : TransactionNumber} → lineWritten number held behind ≡ Text n next → (n ≡ length text) × (next ≡ lineNext number held)
   text-counts e = (cc text-written, cc text-written)
 
-  pub text-put : take at output ++ (lineOutput number held behind ++ drop (length output - at) (drop at output)) ≡ write output at text
-  text-put =
-      rw (← (text-fits text behind (lineNext number held) (omega (arith, short, behind-long)) .1)) (write-behind output at text (omega (arith, short)))
+  pub text-output : lineOutput number held behind ≡ write behind 0 text
+  text-output = sym (text-fits text behind (lineNext number held) (omega (arith, short, behind-long)) .1)
 
-  pub text-waits : (after : List ℕ) → length after ≡ length output → waitingAfter at after (length text) ≡ at + length text
-  unfolding waitingAfter
-  text-waits after e = rw (e, le-leb at (length output) (omega arith), le-leb (length text) (length output - at) (omega (arith, short)))
+  pub text-room : at + length text ≤ length output
+  text-room = omega (arith, short)
 
 -- after a turn the line's buffer holds no more than it has room for
 pub turn-few : {p : Progress} {input line output : List ℕ} {r : Progress} {inputAfter lineAfter outputAfter : List ℕ}

@@ -2,6 +2,7 @@ use borrow.Author.Needs.{needs}
 use Prim.Native.Nat.{_≤_}
 use lib.ListN.{length}
 use mathlib.Core.Path.{_≡_}
+use Rattle.import_capabilities.proofs.Laws.{turn-few}
 use Rattle.import_capabilities.proofs.run.Statement.{statement}
 use Rattle.import_capabilities.proofs.run.Tie as tie
 
@@ -31,13 +32,13 @@ loop-less : tie.Need-loop-less Inv-loop μ-loop
 loop-less c = search needs
 
 loop-again : tie.Need-loop-again Inv-loop μ-loop
-loop-again c = search needs
+loop-again c = (search needs, search needs, search needs, turn-few (c .before .before .before .before .before .before .before .before .take-turn .ensures))
 
 loop-less-2 : tie.Need-loop-less-2 Inv-loop μ-loop
 loop-less-2 c = search needs
 
 loop-again-2 : tie.Need-loop-again-2 Inv-loop μ-loop
-loop-again-2 c = search needs
+loop-again-2 c = (search needs, search needs, search needs, turn-few (c .before .before .before .before .before .before .before .before .take-turn .ensures))
 
 put-all-missing-requires : tie.Need-put-all-missing-requires Inv-loop μ-loop
 put-all-missing-requires c κs = search needs

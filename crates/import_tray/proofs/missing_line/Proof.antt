@@ -1,3 +1,4 @@
+use native.Mathlib.Omega.{arith}
 use Rattle.import_tray.proofs.Laws.{no-text}
 use Rattle.import_tray.specs.Awaited.{missingText}
 use borrow.Author.Needs.{needs}
@@ -17,11 +18,11 @@ returns : tie.Need-returns
 unfolding missingText
 returns c =
     let w = c .before .before .write-missing .ensures in
-    rw (← (c .before .before .before .before .before .is-missing .ensures), c .before .before .before .before .if1 .taken) (w .0, w .1)
+    rw (← (c .before .before .before .before .before .is-missing .ensures), c .before .before .before .before .if1 .taken) w
 
 returns-2 : tie.Need-returns-2
 unfolding missingText
-returns-2 c = rw (← (c .before .is-missing .ensures), c .if1 .left) (no-text (c .before .before .before .args .output .now))
+returns-2 c = rw (← (c .before .is-missing .ensures), c .if1 .left) (let n = no-text (c .before .before .before .args .output .now) in (n .0, n .1, omega arith))
 
 pub missing-line-spec : {M : Type 1} → statement M
 missing-line-spec = tie.close (tie.spec is-missing-requires write-missing-requires same-length returns returns-2)

@@ -1,10 +1,10 @@
 use native.Mathlib.Omega.{arith}
 use lib.Seq.{length-take-le}
-use Prim.Native.Nat.{ℕ}
-use mathlib.Core.Path.{refl, sym, ap, _∙_}
-use Rattle.lines.specs.Streams.{withWaiting}
+use mathlib.Core.Path.{refl, sym, _∙_}
+use Rattle.hex_lines.specs.Lines.{lineText}
+use Rattle.lines.proofs.Laws.{text-waits}
 use Rattle.segment_lines.specs.Turns.{heldText}
-use Rattle.segment_lines.proofs.Laws.{text-never, text-counts, text-put, text-waits}
+use Rattle.segment_lines.proofs.Laws.{text-never, text-counts, text-output, text-room}
 use borrow.Author.Needs.{needs}
 use Rattle.segment_lines.proofs.end_line.Statement.{statement}
 use Rattle.segment_lines.proofs.end_line.Tie as tie
@@ -63,13 +63,12 @@ returns-2 c =
     let at = room .result .waiting in
     let fits = room .ensures .2 (d .pre .1) in
     let counts = text-counts (a .progress .number) held (a .output .now) at fits (sym (w .ensures .0) ∙ c .before .before .before .answer .given .1) in
+    let text = lineText (a .progress .number) held in
+    rw (w .ensures .1, text-output (a .progress .number) held (a .output .now) at fits)
     record {
-      room = room .result;
-      made = room .ensures .0;
-      written = rw (w .ensures .1) (text-put (a .progress .number) held (a .output .now) at fits);
-      waits = c .add-waiting .ensures
-          ∙ ap (λ (k : ℕ). withWaiting (room .result) k (room .result .taken))
-          (rw (counts .0) (text-waits (a .progress .number) held (a .output .now) at fits _ (same-length-2 c)));
+      text = text-waits (a .progress .streams) (room .result) (c .add-waiting .result) (a .output .now) 3776 text (room .ensures .0)
+          (text-room (a .progress .number) held (a .output .now) at fits)
+          (rw (w .ensures .1, text-output (a .progress .number) held (a .output .now) at fits, counts .0) at (c .add-waiting .ensures));
       none = refl;
       next = counts .1;
     }

@@ -1,7 +1,7 @@
 use native.Mathlib.Omega.{arith}
 use mathlib.Core.Path.{refl}
 use Rattle.line_buffer.proofs.Promises.{holds-piece}
-use Rattle.segment_lines.specs.Turns.{pieceIn}
+use Rattle.lines.specs.Streams.{pieceIn}
 use borrow.Author.Needs.{needs}
 use Rattle.segment_lines.proofs.read_on.Statement.{statement}
 use Rattle.segment_lines.proofs.read_on.Tie as tie

@@ -1,0 +1,58 @@
+use Prim.Native.Nat.{_≤_}
+use native.Mathlib.Omega.{arith}
+use lib.ListN.{length}
+use Rattle.octets.proofs.Parts.{write-length}
+use Rattle.octets.proofs.Writing.{written-fits, output-fits}
+use Rattle.lines.proofs.Laws.{waits-too}
+use Rattle.lines.specs.declared.Streams.{Streams}
+use Rattle.stock_record.specs.Texts.{headerLine}
+use mathlib.Core.Path.{refl, ap, _∙_}
+use borrow.Author.Needs.{needs}
+use Rattle.import_capabilities.proofs.begin.Statement.{statement}
+use Rattle.import_capabilities.proofs.begin.Tie as tie
+
+write-header-requires : tie.Need-write-header-requires
+write-header-requires c κs = search needs
+
+start-requires : tie.Need-start-requires
+start-requires c κs = search needs
+
+waits-requires : tie.Need-waits-requires
+waits-requires c κs = search needs
+
+empty-line-requires : tie.Need-empty-line-requires
+empty-line-requires c κs = search needs
+
+new-tray-requires : tie.Need-new-tray-requires
+new-tray-requires c κs = search needs
+
+same-length : tie.Need-same-length
+same-length c = search needs
+
+returns : tie.Need-returns
+returns c =
+    let s = c .before .before .before .before .start in
+    let output = c .before .before .before .before .before .before .before .before .before .before .args .output .now in
+    let w = c .before .before .before .before .before .before .before .write-header in (
+      c .before .empty-line .ensures,
+      refl,
+      c .new-tray .ensures,
+      λ h.
+          let long : length headerLine ≤ length output = omega (arith, w .ensures .2, h) in
+          let put = w .ensures .1 ∙ output-fits headerLine output long in
+          let kept = ap length put ∙ write-length output 0 headerLine (omega arith) in
+          let waits = rw (s .ensures, w .ensures .0, written-fits headerLine output long) at (c .before .before .waits .ensures) in
+          (ap (λ (x : Streams). x .waiting) waits ∙ waits-too 0 (w .last .0) (length headerLine) (omega arith) ∙ omega arith, put),
+    )
+
+pub begin-spec : {M : Type 1} → statement M
+begin-spec =
+    tie.close
+    (tie.spec
+    write-header-requires
+    start-requires
+    waits-requires
+    empty-line-requires
+    new-tray-requires
+    same-length
+    returns)
