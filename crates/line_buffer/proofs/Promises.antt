@@ -27,7 +27,7 @@ front-min n piece =
     rw (k, take-all (length piece) piece (omega arith), take-all n piece (omega arith)))
 
 -- more behind a front
-front-more : (n : ℕ) (x y : List ℕ) → take n (take n x ++ y) ≡ take n (x ++ y)
+pub front-more : (n : ℕ) (x y : List ℕ) → take n (take n x ++ y) ≡ take n (x ++ y)
 front-more zero x y = refl
 front-more (suc n) [] y = refl
 front-more (suc n) (c ∷ x) y = ap (λ (r : List ℕ). c ∷ r) (front-more n x y)

@@ -4,9 +4,11 @@ use native.Mathlib.Omega.{arith}
 use mathlib.Core.Bool.{true, false, _&&_, false≢true, and-eq-true-iff}
 use mathlib.Core.List.{List, _++_}
 use mathlib.Core.Path.{_≡_, refl, sym, ap, _∙_, subst}
+use lib.Dec.{leb}
 use lib.ListN.{length, take, drop, getD, drop-of-length-le}
 use lib.Seq.{length-take-le, drop-cons, getD-take}
 use borrow.Author.Tests.{le-leb, ne-eqb, leb-true, ltb-true}
+use Rattle.octets.proofs.Tests.{cases, both-hold}
 use Rattle.octets.specs.Parts.{part, write}
 use Rattle.octets.proofs.Parts.{write-length, write-behind}
 use Rattle.lines.specs.declared.Streams.{Streams}
@@ -46,9 +48,9 @@ piece-within s r input output from filled e some few fits waits = record {
 }
 
 -- the first piece of what was read
-pub piece-read : (s f r : Streams) (after : List ℕ) (filled : ℕ) → Flushed s f → (f .taken ≡ false → filled ≡ 0) → r ≡ pieceFrom f after 0 filled
-    → Read s r after
-piece-read s f r after filled x none e =
+pub piece-read : (s f r : Streams) (after : List ℕ) (filled : ℕ) → Flushed s f → filled ≤ length after → (f .taken ≡ false → filled ≡ 0)
+    → r ≡ pieceFrom f after 0 filled → Read s r after
+piece-read s f r after filled x few none e =
     subst (λ (r : Streams). Read s r after) (sym e) record {
       first = λ i. record {
         from = 0;
@@ -59,6 +61,7 @@ piece-read s f r after filled x none e =
         waiting = (x .emptied) i .waiting;
         taken = f .taken;
       };
+      fits = few;
       untaken = x .untaken;
       unread = none;
     }
@@ -111,3 +114,42 @@ module _ (s before r : Streams) (output : List ℕ) (room : ℕ) (text : List �
         put = put;
         waits = e ∙ ap (λ (k : ℕ). withWaiting before k (before .taken)) (waits-too (before .waiting) putBack (length text) (omega arith));
       }
+
+-- ---- what the calls leave of the streams
+
+-- what waits stays within the output
+pub found-waiting : (s r : Streams) (input output after : List ℕ) → Found s input output r after → s .waiting ≤ length output → r .waiting ≤ length output
+found-waiting s r input output after f h =
+    cases (isLeft s input output)
+    (λ e. rw (ap (λ (x : Streams). x .waiting) (f .left e .0)) h)
+    (λ e. let none = ap (λ (x : Streams). x .waiting) (f .read e .first) in omega arith)
+
+module _ (s : Streams) (output : List ℕ) (room : ℕ) where
+  -- making room changes nothing but what waits
+  room-same : (r : Streams) → RoomMade s output room r → r ≡ withWaiting s (r .waiting) (r .taken)
+  room-same r made =
+      cases (hasRoom s output room) (λ e. subst (λ (x : Streams). x ≡ withWaiting s (x .waiting) (x .taken)) (sym (made .enough e)) refl)
+      (λ e. subst (λ (x : Streams). x ≡ withWaiting s (x .waiting) (x .taken)) (sym (made .less e .emptied)) refl)
+
+  room-left : (r : Streams) → RoomMade s output room r → room ≤ length output → r .waiting + room ≤ length output
+  room-left r made h =
+      cases (hasRoom s output room)
+      (λ e. let p = both-hold {a = leb (s .waiting) (length output)} e in
+      let fits = leb-true (s .waiting) (length output) (p .0) in
+      let enough = leb-true room (length output - s .waiting) (p .1) in
+      rw (ap (λ (x : Streams). x .waiting) (made .enough e)) (omega arith))
+      (λ e. let none = ap (λ (x : Streams). x .waiting) (made .less e .emptied) in omega arith)
+
+  module _ (text : List ℕ) (r : Streams) (after : List ℕ) (t : TextWaits s output room text r after) where
+    -- nor does a text that waits
+    pub text-same : r ≡ withWaiting s (r .waiting) (r .taken)
+    text-same =
+        let b = t .before in
+        subst (λ (x : Streams). x ≡ withWaiting s (x .waiting) (x .taken)) (sym (t .waits))
+        (ap (λ (x : Streams). withWaiting x (b .waiting + length text) (b .taken)) (room-same b (t .made)))
+
+    pub text-within : length text ≤ room → room ≤ length output → (length after ≡ length output) × (r .waiting ≤ length output)
+    text-within short h =
+        let fits = room-left (t .before) (t .made) h in
+        let more = ap (λ (x : Streams). x .waiting) (t .waits) in
+        (ap length (t .put) ∙ write-length output (t .before .waiting) text (omega arith), omega arith)

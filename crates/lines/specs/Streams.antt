@@ -9,6 +9,10 @@ use lib.ListN.{length, take, drop}
 use Rattle.octets.specs.Parts.{part, write}
 use Rattle.lines.specs.declared.Streams.{Streams}
 
+-- nothing read and nothing waiting
+abbrev pub nothingRead : Streams
+nothingRead = record { from = 0; to = 0; ends = false; filled = 0; found = true; waiting = 0; taken = true }
+
 -- ---- the input
 
 -- the place of the first newline of a text; the text's end where there is none
@@ -85,6 +89,7 @@ isLeft s input output = leb (s .filled) (length input) && (leb (s .waiting) (len
 -- what was read: the first piece of it, what waits written out; nothing is read where standard output takes no more
 pub record Read (s r : Streams) (after : List ℕ) : Type 0 where
   pub first : r ≡ pieceFrom (withWaiting s 0 (r .taken)) after 0 (r .filled)
+  pub fits : r .filled ≤ length after
   pub untaken : s .taken ≡ false → r .taken ≡ false
   pub unread : r .taken ≡ false → r .filled ≡ 0
 

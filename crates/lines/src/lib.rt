@@ -3,10 +3,9 @@
 use libc::STDIN_FILENO;
 use libc::STDOUT_FILENO;
 ghost use mathlib.Core.Path.{_≡_};
-ghost use mathlib.Core.Bool.{true, false};
 ghost use Prim.Native.Nat.{_+_, _≤_};
 ghost use lib.ListN.{length};
-ghost use Rattle.lines.specs.Streams.{newlineFrom, pieceFrom, nextPlace, Within, withWaiting, Flushed, RoomMade, waitingAfter, isLeft, Read, Found, isWhole};
+ghost use Rattle.lines.specs.Streams.{nothingRead, newlineFrom, pieceFrom, nextPlace, Within, withWaiting, Flushed, RoomMade, waitingAfter, isLeft, Read, Found, isWhole};
 
 // How far a program has come in its input and its output.
 pub struct Streams {
@@ -27,7 +26,7 @@ pub struct Streams {
 
 // Nothing read and nothing waiting.
 pub fn start() -> Streams
-    ensures { λ r. ⌜ r ≡ record { from = 0; to = 0; ends = false; filled = 0; found = true; waiting = 0; taken = true } ⌝ }
+    ensures { λ r. ⌜ r ≡ nothingRead ⌝ }
 {
     Streams {
         from: 0,

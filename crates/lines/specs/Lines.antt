@@ -1,0 +1,60 @@
+-- THE LINES FOUND: whatever the system reads at a time, the lines that come of the pieces are those of all that was read.
+use Prim.Native.Nat.{ℕ, _≤_}
+use mathlib.Core.Bool.{Bool, true, false, cond}
+use mathlib.Core.List.{List, [], _∷_, _++_}
+use mathlib.Core.Path.{_≡_}
+use lib.Dec.{eqb, ltb}
+use lib.ListN.{length, take}
+use Rattle.octets.specs.Cut.{joined}
+use Rattle.lines.specs.Streams.{nothingRead, pieceIn, withWaiting, isLeft, Found, isWhole}
+use Rattle.lines.specs.declared.Streams.{Streams}
+
+-- the lines of a text, of which some characters came before: "ended by a newline or the end of input (nothing after the last newline is no line)"
+abbrev pub linesFrom : List ℕ → List ℕ → List (List ℕ)
+linesFrom held [] = cond (ltb 0 (length held)) (held ∷ []) []
+linesFrom held (c ∷ text) = cond (eqb c 10) (held ∷ linesFrom [] text) (linesFrom (held ++ (c ∷ [])) text)
+
+abbrev pub linesOf : List ℕ → List (List ℕ)
+linesOf text = linesFrom [] text
+
+-- how far the reading has come: what was read at each time, the lines that were whole, and the characters held of the next one
+pub record Reading : Type 0 where
+  pub streams : Streams
+  pub input : List ℕ
+  pub read : List (List ℕ)
+  pub whole : List (List ℕ)
+  pub held : List ℕ
+
+-- one if it is so, else none
+abbrev pub oneIf : Bool → List ℕ → List (List ℕ)
+oneIf true l = l ∷ []
+oneIf false l = []
+
+-- the reading after a piece more, found as a call of the streams s says
+abbrev pub readOn : Reading → Streams → List ℕ → Streams → List ℕ → Reading
+readOn x s output r after =
+    let line : List ℕ = x .held ++ pieceIn r after in
+    let whole : Bool = isWhole r (length line) in
+    record {
+      streams = r;
+      input = after;
+      read = x .read ++ cond (isLeft s (x .input) output) [] (take (r .filled) after ∷ []);
+      whole = x .whole ++ oneIf whole line;
+      held = cond whole [] line;
+    }
+
+-- at the start, whatever the input's buffer has
+abbrev pub atStart : List ℕ → Reading
+atStart input = record { streams = nothingRead; input = input; read = []; whole = []; held = [] }
+
+-- readings that follow from the start, each by a call as it was answered, for as long as pieces are found. Between two calls the program may put text
+-- to be written out
+pub data Follows (input : List ℕ) : Reading → Type 0 where
+  begins : Follows input (atStart input)
+  goes : {x : Reading} → Follows input x → x .streams .found ≡ true → (s : Streams) → s ≡ withWaiting (x .streams) (s .waiting) (s .taken)
+      → (output : List ℕ) → s .waiting ≤ length output → (r : Streams) (after : List ℕ) → Found s (x .input) output r after
+      → Follows input (readOn x s output r after)
+
+-- at the end of the input the whole lines are the lines of all that was read
+abbrev pub LinesFound : Type 0
+LinesFound = (input : List ℕ) (x : Reading) → Follows input x → x .streams .found ≡ false → x .whole ≡ linesOf (joined (x .read))
