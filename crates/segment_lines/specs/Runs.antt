@@ -1,6 +1,6 @@
 -- LINES IN, LINES OUT: a run of the program is turns from the start, and the text that it puts in all is that of the lines of all that was read,
 -- however much the system read at a time.
-use Prim.Native.Nat.{ℕ, suc, _≤_}
+use Prim.Native.Nat.{ℕ, suc, _+_, _≤_}
 use mathlib.Core.Bool.{true, false, cond}
 use mathlib.Core.List.{List, [], _∷_, _++_}
 use mathlib.Core.Path.{_≡_}
@@ -24,9 +24,12 @@ pub record State : Type 0 where
 abbrev pub firstNumber : TransactionNumber
 firstNumber = record { 0 = 0 }
 
+abbrev pub stateOf : Progress → List ℕ → List ℕ → List ℕ → State
+stateOf p input line output = record { progress = p; input = input; line = line; output = output }
+
 -- the start, whatever the buffers have
 abbrev pub first : List ℕ → List ℕ → List ℕ → State
-first input line output = record { progress = record { streams = nothingRead; held = 0; number = firstNumber }; input = input; line = line; output = output }
+first input line output = stateOf (record { streams = nothingRead; held = 0; number = firstNumber }) input line output
 
 -- ---- a run
 
@@ -47,6 +50,20 @@ pub data Runs (input line output : List ℕ) : ℕ → Reading → List ℕ → 
   begins : Runs input line output 0 (atStart input) [] (first input line output)
   goes : {n : ℕ} {x : Reading} {text : List ℕ} {σ : State} → Runs input line output n x text σ → σ .progress .streams .found ≡ true
       → (τ : State) (t : TurnTo σ τ) → Runs input line output (suc n) (readBy σ τ t x) (text ++ putBy σ τ t) τ
+
+-- a run to a state, of so many turns less than there are: to the end of the input none is left
+pub record RunsTo (input line output : List ℕ) (σ : State) (left : ℕ) : Type 0 where
+  pub turns : ℕ
+  pub reading : Reading
+  pub text : List ℕ
+  pub runs : Runs input line output turns reading text σ
+  pub counted : σ .progress .streams .found ≡ true → turns + left ≡ 18446744073709551615
+  pub stopped : σ .progress .streams .found ≡ false → left ≡ 0
+
+-- what the program has done: a run to the end of the input, or of 2^64 - 1 turns
+pub record Ran (input line output : List ℕ) : Type 0 where
+  pub last : State
+  pub run : RunsTo input line output last 0
 
 -- ---- its text
 

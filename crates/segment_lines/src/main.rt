@@ -5,6 +5,7 @@ use transactions::TransactionNumber;
 ghost use Prim.Native.Nat.{_≤_};
 ghost use lib.ListN.{length};
 ghost use Rattle.segment_lines.specs.Turns.{PieceHeld, LineEnded, Turn};
+ghost use Rattle.segment_lines.specs.Runs.{Ran};
 
 // How far the program has come.
 struct Progress {
@@ -70,6 +71,7 @@ fn take_turn(progress: Progress, input: &mut [u8], line: &mut [u8], output: &mut
 
 fn run(input: &mut [u8], line: &mut [u8], output: &mut [u8])
     requires { ⌜ 3776 ≤ length (now output) ⌝ }
+    ensures { λ _. ⌜ Ran (now (input .entry)) (now (line .entry)) (now (output .entry)) ⌝ }
 {
     let mut progress = Progress {
         streams: lines::start(),

@@ -1,8 +1,11 @@
 use borrow.Author.Needs.{needs}
 use Prim.Native.Nat.{_≤_}
 use lib.ListN.{length}
-use mathlib.Core.Path.{_≡_}
+use mathlib.Core.Path.{_≡_, refl}
+use native.Mathlib.Omega.{arith}
+use Rattle.segment_lines.specs.Runs.{stateOf, RunsTo}
 use Rattle.segment_lines.proofs.Laws.{turn-few}
+use Rattle.segment_lines.proofs.Runs.{runs-begin, runs-on, runs-out}
 use Rattle.segment_lines.proofs.run.Statement.{statement}
 use Rattle.segment_lines.proofs.run.Tie as tie
 
@@ -12,6 +15,7 @@ Inv-loop input₀ line₀ output₀ progress₀ turns₀ input line output progr
     × (length line ≡ length line₀)
     × (length output ≡ length output₀)
     × (progress .held ≤ length line)
+    × RunsTo input₀ line₀ output₀ (stateOf progress input line output) turns
 
 abbrev μ-loop : tie.MeasureT-loop
 μ-loop input₀ line₀ output₀ progress₀ turns₀ input line output progress turns = turns
@@ -20,7 +24,7 @@ start-requires : tie.Need-start-requires Inv-loop μ-loop
 start-requires c κs = search needs
 
 loop-holds : tie.Need-loop-holds Inv-loop μ-loop
-loop-holds c = search needs
+loop-holds c = (refl, refl, refl, omega arith, runs-begin (c .start .result) (c .start .ensures))
 
 take-turn-requires : tie.Need-take-turn-requires Inv-loop μ-loop
 take-turn-requires c κs = search needs
@@ -32,13 +36,19 @@ loop-less : tie.Need-loop-less Inv-loop μ-loop
 loop-less c = search needs
 
 loop-again : tie.Need-loop-again Inv-loop μ-loop
-loop-again c = (search needs, search needs, search needs, turn-few (c .before .before .before .before .before .before .before .before .take-turn .ensures))
+loop-again c =
+    let d = c .before .before .before .before .before .before .before .before .before .before .before .before .before in
+    let t = c .before .before .before .before .before .before .before .before .take-turn .ensures in
+    (search needs, search needs, search needs, turn-few t, runs-on (d .loop .inv .4) (omega arith) t (c .if1 .taken))
 
 loop-less-2 : tie.Need-loop-less-2 Inv-loop μ-loop
 loop-less-2 c = search needs
 
 loop-again-2 : tie.Need-loop-again-2 Inv-loop μ-loop
-loop-again-2 c = (search needs, search needs, search needs, turn-few (c .before .before .before .before .before .before .before .before .take-turn .ensures))
+loop-again-2 c =
+    let d = c .before .before .before .before .before .before .before .before .before .before .before .before .before in
+    let t = c .before .before .before .before .before .before .before .before .take-turn .ensures in
+    (search needs, search needs, search needs, turn-few t, runs-out (d .loop .inv .4) (omega arith) t (c .if1 .left))
 
 flush-requires : tie.Need-flush-requires Inv-loop μ-loop
 flush-requires c κs = search needs
@@ -53,7 +63,10 @@ same-length-3 : tie.Need-same-length-3 Inv-loop μ-loop
 same-length-3 c = search needs
 
 returns : tie.Need-returns Inv-loop μ-loop
-returns c = search needs
+returns c =
+    let d = c .before .before .before in
+    let none : d .loop .turns ≡ 0 = omega arith in
+    record { last = _; run = rw none at (d .loop .inv .4) }
 
 pub run-spec : {M : Type 1} → statement M
 run-spec =
