@@ -5,17 +5,17 @@ use native.Mathlib.Omega.{arith}
 use mathlib.Core.Bool.{Bool, true, false, _&&_, false≢true}
 use mathlib.Core.List.{List, [], _∷_, _++_, append-nil, append-assoc}
 use mathlib.Core.Path.{_≡_, refl, sym, ap, _∙_}
-use lib.Dec.{leb, eqb}
+use lib.Dec.{leb, ltb, eqb}
 use lib.ListN.{length, take, drop, getD, set, length-append, List·getD-append}
 use lib.Seq.{length-take-le, take-suc, take-all, getD-take}
-use borrow.Author.Tests.{le-leb, lt-leb, ne-eqb, leb-true, leb-false, eqb-true}
+use borrow.Author.Tests.{le-leb, lt-leb, lt-ltb, ne-eqb, leb-true, leb-false, eqb-true}
 use Rattle.octets.proofs.Tests.{cases, both-hold}
 use Rattle.hex.specs.Hex.{valueOf, allDigits, isHexadecimal, octetsOf}
 use Rattle.hex.proofs.Laws.{length-octets}
 use Rattle.import_lines.specs.Lines.{isFrame, beginsOpening, isComment, otherStep, lineStep, lineArea}
 use Rattle.import_tray.specs.declared.Tray.{Tray}
 use Rattle.import_lines.proofs.Laws.{long-frames}
-use Rattle.held_line.specs.Held.{isDigit, fullAfter, heldAfter}
+use Rattle.held_line.specs.Held.{isDigit, fullAfter, heldAfter, heldFrom}
 
 -- ---- digits and comments, with one character more
 
@@ -195,3 +195,31 @@ pub alike-same : {h w : List ℕ} → Alike h w → (tray : Tray) (area : List �
     → (lineStep tray area number h ≡ lineStep tray area number w) × (lineArea tray area h ≡ lineArea tray area w)
 alike-same {h} {w} (same e) tray area number = rw e (refl, refl)
 alike-same (long l) tray area number = long-same l tray area number
+
+-- ---- a line in two parts, and a line that has characters
+
+pub held-append : (held a b : List ℕ) → heldFrom held (a ++ b) ≡ heldFrom (heldFrom held a) b
+held-append held [] b = refl
+held-append held (c ∷ a) b = held-append (heldAfter held c) a b
+
+some-after : (held : List ℕ) (c : ℕ) → 1 ≤ length held → 1 ≤ length (heldAfter held c)
+unfolding heldAfter fullAfter
+some-after held c h =
+    cases (leb 64 (length held))
+    (λ e. let long = leb-true 64 (length held) e in
+    let front = length-take-le 63 held (omega arith) in
+    rw e (cases (isComment held) (λ p. rw p h) (λ p. rw p (cases (isDigit (getD held 63 0))
+    (λ q. rw q (cases (isDigit c) (λ z. rw z (omega arith)) (λ z. rw z (omega (arith, length-append (take 63 held) (c ∷ []))))))
+    (λ q. rw q h)))))
+    (λ e. rw e (omega (arith, length-append held (c ∷ []))))
+
+some-from : (held line : List ℕ) → 1 ≤ length held → 1 ≤ length (heldFrom held line)
+some-from held [] h = h
+some-from held (c ∷ line) h = some-from (heldAfter held c) line (some-after held c h)
+
+-- what is held has characters where the line has
+pub held-some : (line : List ℕ) → ltb 0 (length (heldFrom [] line)) ≡ ltb 0 (length line)
+unfolding heldAfter
+held-some [] = refl
+held-some (c ∷ line) =
+    rw (lt-ltb 0 (length (heldFrom (heldAfter [] c) line)) (omega (arith, some-from (c ∷ []) line (omega arith))), lt-ltb 0 (length (c ∷ line)) (omega arith))

@@ -38,6 +38,7 @@ waitingWith s WrongArgument output = s
 -- a piece more: the next one of the input is held
 pub record PieceHeld (p : Progress) (input output : List ℕ) (r : Progress) (inputAfter : List ℕ) : Type 0 where
   pub found : Found (p .streams) input output (r .streams) inputAfter
+  pub long : length (r .line .characters) ≡ 64
   pub few : r .line .count ≤ 64
   pub text : heldText (r .line) ≡ heldFrom (heldText (p .line)) (pieceIn (r .streams) inputAfter)
   pub number : r .number ≡ p .number

@@ -5,20 +5,16 @@ use import_tray::Tray;
 use lines::Streams;
 use octets::Written;
 use transactions::Socket;
-ghost use mathlib.Core.Bool.{false};
 ghost use mathlib.Core.Path.{_≡_};
 ghost use Prim.Native.Nat.{_≤_};
-ghost use lib.ListN.{length, replicate};
-ghost use Rattle.octets.specs.Parts.{write};
-ghost use Rattle.links.specs.Links.{blank};
-ghost use Rattle.links.specs.declared.Side.the-variants.{Provisioner};
+ghost use lib.ListN.{length};
 ghost use Rattle.lines.specs.Streams.{TextWaits};
-ghost use Rattle.stock_record.specs.Texts.{headerLine};
-ghost use Rattle.import_tray.specs.Awaited.{trayOf, missingText};
+ghost use Rattle.import_tray.specs.Awaited.{missingText};
 ghost use Rattle.held_line.specs.Held.{heldFrom};
 ghost use Rattle.import_lines.specs.Lines.{lineStep, lineArea};
 ghost use Rattle.import_lines.specs.Steps.{importedOf, areaAfter, outputAfter};
 ghost use Rattle.import_capabilities.specs.Turns.{heldText, nextNumber, waitingWith, PieceHeld, LineEnded, Turn, Missing};
+ghost use Rattle.import_capabilities.specs.Runs.{Starts, Ran};
 
 // The line so far, in such a shape that it is imported as the whole line would be.
 struct Line {
@@ -149,10 +145,8 @@ fn take_turn(progress: Progress, input: &mut [u8], area: &mut [u8], output: &mut
 
 // The header is the first line, always.
 fn begin(output: &mut [u8]) -> Progress
-    ensures { λ r. ⌜ (r .line .count ≡ 0)
-        × (r .number ≡ 0)
-        × (r .tray ≡ trayOf (replicate 8 (blank Provisioner)) (replicate 8 false))
-        × (231 ≤ length (now (output .entry)) → (r .streams .waiting ≡ length headerLine) × (now (output .exit) ≡ write (now (output .entry)) 0 headerLine)) ⌝ }
+    requires { ⌜ 231 ≤ length (now output) ⌝ }
+    ensures { λ r. ⌜ Starts (now (output .entry)) r (now (output .exit)) ⌝ }
 {
     let answer = stock_record::write_header(output);
     Progress {
@@ -189,6 +183,7 @@ fn put_all_missing(tray: Tray, before: Streams, output: &mut [u8]) -> Streams
 
 fn run(input: &mut [u8], area: &mut [u8], output: &mut [u8])
     requires { ⌜ 231 ≤ length (now output) ⌝ }
+    ensures { λ _. ⌜ Ran (now (input .entry)) (now (area .entry)) (now (output .entry)) ⌝ }
 {
     let mut progress = begin(output);
     // Nothing says that the input ends, so the turns are counted down from a number that no run uses up.

@@ -10,7 +10,7 @@ use lib.Seq.{length-take-le, drop-cons, getD-take}
 use borrow.Author.Tests.{le-leb, ne-eqb, leb-true, ltb-true}
 use Rattle.octets.proofs.Tests.{cases, both-hold}
 use Rattle.octets.specs.Parts.{part, write}
-use Rattle.octets.proofs.Parts.{write-length, write-behind}
+use Rattle.octets.proofs.Parts.{write-length, write-longer, write-behind}
 use Rattle.lines.specs.declared.Streams.{Streams}
 use Rattle.lines.specs.Streams.{newlineFrom, pieceFrom, nextPlace, Within, withWaiting, Flushed, hasRoom, RoomMade, waitingAfter, TextWaits, isLeft, Read, Found}
 
@@ -148,8 +148,10 @@ module _ (s : Streams) (output : List ℕ) (room : ℕ) where
         subst (λ (x : Streams). x ≡ withWaiting s (x .waiting) (x .taken)) (sym (t .waits))
         (ap (λ (x : Streams). withWaiting x (b .waiting + length text) (b .taken)) (room-same b (t .made)))
 
-    pub text-within : length text ≤ room → room ≤ length output → (length after ≡ length output) × (r .waiting ≤ length output)
-    text-within short h =
+    pub text-within : room ≤ length output → (length output ≤ length after) × (r .waiting ≤ length after)
+    text-within h =
         let fits = room-left (t .before) (t .made) h in
         let more = ap (λ (x : Streams). x .waiting) (t .waits) in
-        (ap length (t .put) ∙ write-length output (t .before .waiting) text (omega arith), omega arith)
+        let long = write-longer output (t .before .waiting) text (omega arith) in
+        let put = ap length (t .put) in
+        (omega arith, omega arith)

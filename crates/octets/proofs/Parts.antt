@@ -96,6 +96,16 @@ write-next l at d e h =
     let n : at + length (d ++ e) ≡ at + length d + length e = omega (arith, length-append d e) in
     rw (write-front l at d h, write-drop l at d h (at + length d + length e) (omega arith), n) (rw (append-assoc (take at l) d e))
 
+-- a write from a place within the list, however far
+pub write-longer : (l : List ℕ) (at : ℕ) (d : List ℕ) → at ≤ length l → (at + length d ≤ length (write l at d)) × (length l ≤ length (write l at d))
+unfolding write
+write-longer l at d h =
+    let front = length-append (take at l) d in
+    let all = length-append (take at l ++ d) (drop (at + length d) l) in
+    let behind = length-drop (at + length d) l in
+    let head = length-take-le at l h in
+    (omega arith, omega arith)
+
 -- a write at the start of what lies behind a place, back in its place
 pub write-behind : (l : List ℕ) (at : ℕ) (d : List ℕ) → at + length d ≤ length l
     → take at l ++ (write (part l at (length l - at)) 0 d ++ drop (length l - at) (drop at l)) ≡ write l at d

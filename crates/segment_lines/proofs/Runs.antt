@@ -13,7 +13,7 @@ use Rattle.octets.proofs.Tests.{cases}
 use Rattle.transactions.specs.declared.TransactionNumber.{TransactionNumber}
 use Rattle.line_buffer.proofs.Promises.{front-more}
 use Rattle.hex_lines.specs.Lines.{lineText, lineNext}
-use Rattle.hex_lines.proofs.Laws.{enough, front-does-the-same}
+use Rattle.hex_lines.proofs.Laws.{front-does-the-same}
 use Rattle.lines.specs.Streams.{nothingRead, pieceIn, withWaiting, isWhole}
 use Rattle.lines.specs.declared.Streams.{Streams}
 use Rattle.lines.specs.Lines.{linesOf, Reading, atStart, Follows, oneIf}
@@ -124,15 +124,14 @@ module _ (input : List ℕ) (x : Reading) (text : List ℕ) (σ : State) (a : Ag
   ends e =
       let b = t .whole e in
       let y = sym whole-is ∙ e in
-      let short = enough (read .number) (heldText read (τ .line)) in
-      let within = text-within (read .streams) (σ .output) 3776 (lineText (read .number) (heldText read (τ .line))) (τ .progress .streams) (τ .output) (b .text) short (a .output-room) in
+      let within = text-within (read .streams) (σ .output) 3776 (lineText (read .number) (heldText read (τ .line))) (τ .progress .streams) (τ .output) (b .text) (a .output-room) in
       record {
         follows = follows-on;
         streams = text-same (read .streams) (σ .output) 3776 (lineText (read .number) (heldText read (τ .line))) (τ .progress .streams) (τ .output) (b .text);
         same-input = refl;
         room = room-after;
         output-room = omega (arith, within .0, a .output-room);
-        waiting = omega (arith, within .0, within .1);
+        waiting = within .1;
         held = rw (b .none, y) (sym (take-nil 2939));
         number = rw (y, number-more firstNumber (x .whole) line)
             (b .next ∙ ap (lineNext (read .number)) held-front ∙ front-does-the-same (read .number) line .1 ∙ ap (λ (k : TransactionNumber). lineNext k line) number-read);

@@ -1,12 +1,12 @@
 use Prim.Native.Nat.{_≤_}
+use Rattle.lines.specs.Streams.{waitingAfter}
 use native.Mathlib.Omega.{arith}
 use lib.ListN.{length}
 use Rattle.octets.proofs.Parts.{write-length}
 use Rattle.octets.proofs.Writing.{written-fits, output-fits}
 use Rattle.lines.proofs.Laws.{waits-too}
-use Rattle.lines.specs.declared.Streams.{Streams}
 use Rattle.stock_record.specs.Texts.{headerLine}
-use mathlib.Core.Path.{refl, ap, _∙_}
+use mathlib.Core.Path.{_≡_, refl, ap, _∙_}
 use borrow.Author.Needs.{needs}
 use Rattle.import_capabilities.proofs.begin.Statement.{statement}
 use Rattle.import_capabilities.proofs.begin.Tie as tie
@@ -31,19 +31,21 @@ same-length c = search needs
 
 returns : tie.Need-returns
 returns c =
-    let s = c .before .before .before .before .start in
-    let output = c .before .before .before .before .before .before .before .before .before .before .args .output .now in
-    let w = c .before .before .before .before .before .before .before .write-header in (
-      c .before .empty-line .ensures,
-      refl,
-      c .new-tray .ensures,
-      λ h.
-          let long : length headerLine ≤ length output = omega (arith, w .ensures .2, h) in
-          let put = w .ensures .1 ∙ output-fits headerLine output long in
-          let kept = ap length put ∙ write-length output 0 headerLine (omega arith) in
-          let waits = rw (s .ensures, w .ensures .0, written-fits headerLine output long) at (c .before .before .waits .ensures) in
-          (ap (λ (x : Streams). x .waiting) waits ∙ waits-too 0 (w .last .0) (length headerLine) (omega arith) ∙ omega arith, put),
-    )
+    let d = c .before .before .before .before .before .before .before .before .before .before in
+    let output = d .args .output .now in
+    let w = c .before .before .before .before .before .before .before .write-header in
+    let long : length headerLine ≤ length output = omega (arith, w .ensures .2, d .pre) in
+    let put = w .ensures .1 ∙ output-fits headerLine output long in
+    let kept = ap length put ∙ write-length output 0 headerLine (omega arith) in
+    let waits = rw (c .before .before .before .before .start .ensures, w .ensures .0, written-fits headerLine output long) at (c .before .before .waits .ensures) in
+    let count : waitingAfter 0 (w .last .0) (length headerLine) ≡ length headerLine = waits-too 0 (w .last .0) (length headerLine) (omega arith) ∙ omega arith in
+    record {
+      streams = rw count at waits;
+      none = c .before .empty-line .ensures;
+      number = refl;
+      tray = c .new-tray .ensures;
+      put = put;
+    }
 
 pub begin-spec : {M : Type 1} → statement M
 begin-spec =

@@ -1,8 +1,12 @@
 use borrow.Author.Needs.{needs}
 use Prim.Native.Nat.{_≤_}
 use lib.ListN.{length}
-use mathlib.Core.Path.{_≡_}
+use mathlib.Core.Path.{_≡_, refl, ap}
+use native.Mathlib.Omega.{arith}
+use Rattle.lines.specs.declared.Streams.{Streams}
+use Rattle.import_capabilities.specs.Runs.{stateOf, RunsTo}
 use Rattle.import_capabilities.proofs.Laws.{turn-few}
+use Rattle.import_capabilities.proofs.Runs.{runs-begin, runs-on, runs-out}
 use Rattle.import_capabilities.proofs.run.Statement.{statement}
 use Rattle.import_capabilities.proofs.run.Tie as tie
 
@@ -12,6 +16,7 @@ Inv-loop input₀ area₀ output₀ progress₀ turns₀ input area output progr
     × (length area ≡ length area₀)
     × (length output ≡ length output₀)
     × (progress .line .count ≤ 64)
+    × RunsTo (stateOf progress₀ input₀ area₀ output₀) (stateOf progress input area output) turns
 
 abbrev μ-loop : tie.MeasureT-loop
 μ-loop input₀ area₀ output₀ progress₀ turns₀ input area output progress turns = turns
@@ -20,7 +25,9 @@ begin-requires : tie.Need-begin-requires Inv-loop μ-loop
 begin-requires c κs = search needs
 
 loop-holds : tie.Need-loop-holds Inv-loop μ-loop
-loop-holds c = search needs
+loop-holds c =
+    let b = c .before .before .begin .ensures in
+    (refl, refl, refl, omega (arith, b .none), runs-begin _ (ap (λ (s : Streams). s .found) (b .streams)))
 
 take-turn-requires : tie.Need-take-turn-requires Inv-loop μ-loop
 take-turn-requires c κs = search needs
@@ -32,13 +39,19 @@ loop-less : tie.Need-loop-less Inv-loop μ-loop
 loop-less c = search needs
 
 loop-again : tie.Need-loop-again Inv-loop μ-loop
-loop-again c = (search needs, search needs, search needs, turn-few (c .before .before .before .before .before .before .before .before .take-turn .ensures))
+loop-again c =
+    let d = c .before .before .before .before .before .before .before .before .before .before .before .before .before in
+    let t = c .before .before .before .before .before .before .before .before .take-turn .ensures in
+    (search needs, search needs, search needs, turn-few t, runs-on (d .loop .inv .4) (c .before .before .before .before .before .before .before .before .before .before .before .before .loop-test .taken) t (c .if1 .taken))
 
 loop-less-2 : tie.Need-loop-less-2 Inv-loop μ-loop
 loop-less-2 c = search needs
 
 loop-again-2 : tie.Need-loop-again-2 Inv-loop μ-loop
-loop-again-2 c = (search needs, search needs, search needs, turn-few (c .before .before .before .before .before .before .before .before .take-turn .ensures))
+loop-again-2 c =
+    let d = c .before .before .before .before .before .before .before .before .before .before .before .before .before in
+    let t = c .before .before .before .before .before .before .before .before .take-turn .ensures in
+    (search needs, search needs, search needs, turn-few t, runs-out (d .loop .inv .4) (c .before .before .before .before .before .before .before .before .before .before .before .before .loop-test .taken) t (c .if1 .left))
 
 put-all-missing-requires : tie.Need-put-all-missing-requires Inv-loop μ-loop
 put-all-missing-requires c κs = search needs
@@ -56,7 +69,19 @@ same-length-3 : tie.Need-same-length-3 Inv-loop μ-loop
 same-length-3 c = search needs
 
 returns : tie.Need-returns Inv-loop μ-loop
-returns c = search needs
+returns c =
+    let d = c .before .before .before .before .before .before .before in
+    let none : d .loop .turns ≡ 0 = omega arith in
+    record {
+      start = c .before .before .before .before .before .before .before .before .before .before .begin .result;
+      outputAtStart = c .before .before .before .before .before .before .before .before .before .before .begin .last .0;
+      starts = c .before .before .before .before .before .before .before .before .before .before .begin .ensures;
+      last = _;
+      run = rw none at (d .loop .inv .4);
+      streams = _;
+      outputAtEnd = _;
+      missing = c .before .before .before .before .put-all-missing .ensures;
+    }
 
 pub run-spec : {M : Type 1} → statement M
 run-spec =
