@@ -1,7 +1,7 @@
 -- The whole output (`specs/Runs.antt`).
-use Prim.Native.Nat.{ℕ, suc, _+_, _-_, _≤_, _<_}
+use Prim.Native.Nat.{ℕ, _≤_}
 use native.Mathlib.Omega.{arith}
-use mathlib.Core.Bool.{Bool, true, false, not, cond, _||_, _&&_, false≢true}
+use mathlib.Core.Bool.{Bool, true, false, not, cond, _||_, _&&_}
 use mathlib.Core.List.{List, [], _∷_, _++_, append-assoc, append-nil}
 use mathlib.Core.Path.{_≡_, refl, sym, ap, _∙_, subst}
 use lib.Dec.{ltb}
@@ -24,8 +24,9 @@ use Rattle.held_line.proofs.Laws.{held-append, held-some}
 use Rattle.held_line.proofs.Promises.{held-does-the-same}
 use Rattle.import_capabilities.specs.declared.Progress.{Progress}
 use Rattle.import_capabilities.specs.Turns.{heldText, nextNumber, stepOf, Turn}
-use Rattle.import_capabilities.specs.Runs.{State, stateOf, Starts, TurnTo, putBy, readBy, Runs, RunsTo, Import, stepIn, after, afterAll, textFrom, atFirst, WholeOutput}
-use Rattle.import_capabilities.specs.Runs.Runs.{begins, goes}
+use Rattle.import_capabilities.specs.Runs.{State, stateOf, Starts, TurnTo, putBy, readBy, program, first, Import, stepIn, after, afterAll, textFrom, atFirst, WholeOutput}
+use Rattle.lines.specs.Runs.{Runs}
+use Rattle.lines.specs.Runs.Runs.{begins, goes}
 
 -- ---- one line more
 
@@ -145,7 +146,7 @@ module _ (ρ : State) where
         }
 
   module _ (begun : Agrees (atStart (ρ .input)) headerLine ρ) where
-    agrees : (n : ℕ) (x : Reading) (text : List ℕ) (σ : State) → Runs ρ n x text σ → Agrees x text σ
+    agrees : (n : ℕ) (x : Reading) (text : List ℕ) (σ : State) → Runs program (first (ρ .progress) (ρ .input) (ρ .area) (ρ .output)) n x text σ → Agrees x text σ
     agrees n x text σ begins = begun
     agrees n x text σ (goes {x = y} {text = before} {σ = π} runs found τ t) =
         let a = agrees _ y before π runs in
@@ -174,47 +175,7 @@ whole-output input area output room p outputAtStart s n x text σ runs none =
     let ρ = stateOf p input area outputAtStart in
     let a = agrees ρ (started input area output room p outputAtStart s) n x text σ runs in
     let lines = lines-found input x (a .follows) (sym (ap (λ (q : Streams). q .found) (a .streams)) ∙ none) in
-    let first : importOf ρ ≡ atFirst area = λ i. record { tray = s .tray i; area = area; number = s .number i } in (
-      a .put ∙ ap (λ (l : List (List ℕ)). headerLine ++ textFrom (importOf ρ) l) lines ∙ ap (λ (m : Import). headerLine ++ textFrom m (linesOf (joined (x .read)))) first,
-      ap (λ (m : Import). m .tray) (a .imported ∙ ap (λ (l : List (List ℕ)). afterAll (importOf ρ) l) lines ∙ ap (λ (m : Import). afterAll m (linesOf (joined (x .read)))) first),
+    let at : importOf ρ ≡ atFirst area = λ i. record { tray = s .tray i; area = area; number = s .number i } in (
+      a .put ∙ ap (λ (l : List (List ℕ)). headerLine ++ textFrom (importOf ρ) l) lines ∙ ap (λ (m : Import). headerLine ++ textFrom m (linesOf (joined (x .read)))) at,
+      ap (λ (m : Import). m .tray) (a .imported ∙ ap (λ (l : List (List ℕ)). afterAll (importOf ρ) l) lines ∙ ap (λ (m : Import). afterAll m (linesOf (joined (x .read)))) at),
     )
-
--- ---- the program's loop
-
-pub runs-begin : (ρ : State) → ρ .progress .streams .found ≡ true → RunsTo ρ ρ 18446744073709551615
-runs-begin ρ e = record {
-  turns = 0;
-  reading = atStart (ρ .input);
-  text = headerLine;
-  runs = begins;
-  counted = λ _. omega arith;
-  stopped = λ n. absurd (false≢true (sym n ∙ e));
-}
-
-module _ {ρ : State} {p : Progress} {i d o : List ℕ} {left : ℕ} (run : RunsTo ρ (stateOf p i d o) left) (some : 0 < left)
-    {r : Progress} {i′ d′ o′ : List ℕ} (t : Turn p i d o r i′ d′ o′) where
-  was-found : p .streams .found ≡ true
-  was-found = cases (p .streams .found) (λ e. e) (λ e. absurd (omega (arith, run .stopped e)))
-
-  more : Runs ρ (suc (run .turns)) (readBy (stateOf p i d o) (stateOf r i′ d′ o′) t (run .reading)) (run .text ++ putBy (stateOf p i d o) (stateOf r i′ d′ o′) t) (stateOf r i′ d′ o′)
-  more = goes (run .runs) was-found (stateOf r i′ d′ o′) t
-
-  pub runs-on : r .streams .found ≡ true → RunsTo ρ (stateOf r i′ d′ o′) (left - 1)
-  runs-on e = record {
-    turns = suc (run .turns);
-    reading = readBy (stateOf p i d o) (stateOf r i′ d′ o′) t (run .reading);
-    text = run .text ++ putBy (stateOf p i d o) (stateOf r i′ d′ o′) t;
-    runs = more;
-    counted = λ _. omega (arith, run .counted was-found);
-    stopped = λ n. absurd (false≢true (sym n ∙ e));
-  }
-
-  pub runs-out : r .streams .found ≡ false → RunsTo ρ (stateOf r i′ d′ o′) 0
-  runs-out n = record {
-    turns = suc (run .turns);
-    reading = readBy (stateOf p i d o) (stateOf r i′ d′ o′) t (run .reading);
-    text = run .text ++ putBy (stateOf p i d o) (stateOf r i′ d′ o′) t;
-    runs = more;
-    counted = λ e. absurd (false≢true (sym n ∙ e));
-    stopped = λ _. refl;
-  }

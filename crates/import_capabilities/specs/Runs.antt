@@ -1,6 +1,6 @@
 -- FROM A TRAY'S LOG TO STOCK RECORDS: a run of the program is turns from the start, and the text that it puts in all is the header and the texts of the
 -- lines of all that was read, however much the system read at a time; then the lines of the sockets whose record is missing.
-use Prim.Native.Nat.{ℕ, suc, _+_, _≤_}
+use Prim.Native.Nat.{ℕ, _≤_}
 use mathlib.Core.Bool.{true, false, cond}
 use mathlib.Core.List.{List, [], _∷_, _++_}
 use mathlib.Core.Path.{_≡_}
@@ -11,7 +11,8 @@ use Rattle.links.specs.Links.{blank}
 use Rattle.links.specs.declared.Side.the-variants.{Provisioner}
 use Rattle.lines.specs.Streams.{nothingRead, withWaiting, isWhole}
 use Rattle.lines.specs.declared.Streams.{Streams}
-use Rattle.lines.specs.Lines.{linesOf, Reading, readOn, atStart}
+use Rattle.lines.specs.Lines.{linesOf, Reading, readOn}
+use Rattle.lines.specs.Runs.{Program, Start, Runs, RunsTo}
 use Rattle.stock_record.specs.Texts.{headerLine}
 use Rattle.import_tray.specs.Awaited.{trayOf}
 use Rattle.import_tray.specs.declared.Tray.{Tray}
@@ -56,20 +57,12 @@ module _ (σ τ : State) (t : TurnTo σ τ) where
   abbrev pub readBy : Reading → Reading
   readBy x = readOn x (σ .progress .streams) (σ .output) (t .read .streams) (τ .input)
 
--- a run of n turns from a state, with its reading and the text put in all, for as long as pieces are found
-pub data Runs (ρ : State) : ℕ → Reading → List ℕ → State → Type 0 where
-  begins : Runs ρ 0 (atStart (ρ .input)) headerLine ρ
-  goes : {n : ℕ} {x : Reading} {text : List ℕ} {σ : State} → Runs ρ n x text σ → σ .progress .streams .found ≡ true
-      → (τ : State) (t : TurnTo σ τ) → Runs ρ (suc n) (readBy σ τ t x) (text ++ putBy σ τ t) τ
+abbrev pub program : Program
+program = record { State = State; streams = λ σ. σ .progress .streams; Turn = TurnTo; readBy = readBy; putBy = putBy }
 
--- a run to a state, of so many turns less than there are: to the end of the input none is left
-pub record RunsTo (ρ σ : State) (left : ℕ) : Type 0 where
-  pub turns : ℕ
-  pub reading : Reading
-  pub text : List ℕ
-  pub runs : Runs ρ turns reading text σ
-  pub counted : σ .progress .streams .found ≡ true → turns + left ≡ 18446744073709551615
-  pub stopped : σ .progress .streams .found ≡ false → left ≡ 0
+-- a run starts from such a state, with the header put
+abbrev pub first : Progress → List ℕ → List ℕ → List ℕ → Start program
+first p input area output = record { state = stateOf p input area output; input = input; text = headerLine }
 
 -- what the program has done: a run to the end of the input, or of 2^64 - 1 turns, and then the sockets whose record is missing
 pub record Ran (input area output : List ℕ) : Type 0 where
@@ -77,7 +70,7 @@ pub record Ran (input area output : List ℕ) : Type 0 where
   pub outputAtStart : List ℕ
   pub starts : Starts output start outputAtStart
   pub last : State
-  pub run : RunsTo (stateOf start input area outputAtStart) last 0
+  pub run : RunsTo program (first start input area outputAtStart) last 0
   pub streams : Streams
   pub outputAtEnd : List ℕ
   pub missing : Missing (last .progress .tray) (last .progress .streams) (last .output) 8 streams outputAtEnd
@@ -113,6 +106,6 @@ atFirst area = record { tray = newTray; area = area; number = 0 }
 abbrev pub WholeOutput : Type 0
 WholeOutput =
     (input area output : List ℕ) → 231 ≤ length output → (start : Progress) (outputAtStart : List ℕ) → Starts output start outputAtStart
-    → (n : ℕ) (x : Reading) (text : List ℕ) (σ : State) → Runs (stateOf start input area outputAtStart) n x text σ → σ .progress .streams .found ≡ false
+    → (n : ℕ) (x : Reading) (text : List ℕ) (σ : State) → Runs program (first start input area outputAtStart) n x text σ → σ .progress .streams .found ≡ false
     → (text ≡ headerLine ++ textFrom (atFirst area) (linesOf (joined (x .read))))
     × (σ .progress .tray ≡ afterAll (atFirst area) (linesOf (joined (x .read))) .tray)

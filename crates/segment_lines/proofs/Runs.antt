@@ -1,7 +1,7 @@
 -- The whole output (`specs/Runs.antt`).
-use Prim.Native.Nat.{ℕ, suc, _+_, _-_, _≤_, _<_, min}
+use Prim.Native.Nat.{ℕ, _≤_, min}
 use native.Mathlib.Omega.{arith}
-use mathlib.Core.Bool.{Bool, true, false, not, cond, _||_, _&&_, false≢true}
+use mathlib.Core.Bool.{Bool, true, false, not, cond, _||_, _&&_}
 use mathlib.Core.List.{List, [], _∷_, _++_, append-assoc, append-nil}
 use mathlib.Core.Path.{_≡_, refl, sym, ap, _∙_, subst}
 use lib.Dec.{ltb}
@@ -16,14 +16,16 @@ use Rattle.hex_lines.specs.Lines.{lineText, lineNext}
 use Rattle.hex_lines.proofs.Laws.{front-does-the-same}
 use Rattle.lines.specs.Streams.{nothingRead, pieceIn, withWaiting, isWhole}
 use Rattle.lines.specs.declared.Streams.{Streams}
-use Rattle.lines.specs.Lines.{linesOf, Reading, atStart, Follows, oneIf}
+use Rattle.lines.specs.Lines.{linesOf, Reading, Follows, oneIf}
 use Rattle.lines.specs.Lines.Follows.{begins as reading-begins, goes as reading-goes}
 use Rattle.lines.proofs.Laws.{found-waiting, text-same, text-within}
 use Rattle.lines.proofs.Lines.{lines-found}
 use Rattle.segment_lines.specs.declared.Progress.{Progress}
 use Rattle.segment_lines.specs.Turns.{heldText, Turn}
-use Rattle.segment_lines.specs.Runs.{State, firstNumber, stateOf, TurnTo, putBy, readBy, Runs, RunsTo, textFrom, WholeOutput}
-use Rattle.segment_lines.specs.Runs.Runs.{begins, goes}
+use Rattle.segment_lines.specs.Runs.{State, firstNumber, stateOf, TurnTo, putBy, readBy, program, first, textFrom, WholeOutput}
+use Rattle.lines.specs.Runs.{Runs, RunsTo}
+use Rattle.lines.specs.Runs.Runs.{begins, goes}
+use Rattle.lines.proofs.Runs.{runs-begin}
 
 -- ---- the text of one line more
 
@@ -141,7 +143,7 @@ module _ (input : List ℕ) (x : Reading) (text : List ℕ) (σ : State) (a : Ag
       }
 
 agrees : (input line output : List ℕ) → length line ≡ 2939 → 3776 ≤ length output
-    → (n : ℕ) (x : Reading) (text : List ℕ) (σ : State) → Runs input line output n x text σ → Agrees input x text σ
+    → (n : ℕ) (x : Reading) (text : List ℕ) (σ : State) → Runs program (first input line output) n x text σ → Agrees input x text σ
 agrees input line output room few n x text σ begins = record {
   follows = reading-begins;
   streams = refl;
@@ -162,46 +164,9 @@ whole-output input line output room few n x text σ runs none =
     let a = agrees input line output room few n x text σ runs in
     a .put ∙ ap (textFrom firstNumber) (lines-found input x (a .follows) (sym (ap (λ (s : Streams). s .found) (a .streams)) ∙ none))
 
--- ---- the program's loop
-
-module _ {input line output : List ℕ} where
-  pub runs-begin : (s : Streams) → s ≡ nothingRead
-      → RunsTo input line output (stateOf (record { streams = s; held = 0; number = firstNumber }) input line output) 18446744073709551615
-  runs-begin s e =
-      subst (λ (x : Streams). RunsTo input line output (stateOf (record { streams = x; held = 0; number = firstNumber }) input line output) 18446744073709551615) (sym e)
-      record {
-        turns = 0;
-        reading = atStart input;
-        text = [];
-        runs = begins;
-        counted = λ _. omega arith;
-        stopped = λ n. absurd (false≢true (sym n));
-      }
-
-  module _ {p : Progress} {i l o : List ℕ} {left : ℕ} (run : RunsTo input line output (stateOf p i l o) left) (some : 0 < left)
-      {r : Progress} {i′ l′ o′ : List ℕ} (t : Turn p i l o r i′ l′ o′) where
-    was-found : p .streams .found ≡ true
-    was-found = cases (p .streams .found) (λ e. e) (λ e. absurd (omega (arith, run .stopped e)))
-
-    abbrev one-more : Runs input line output (suc (run .turns)) (readBy (stateOf p i l o) (stateOf r i′ l′ o′) t (run .reading)) (run .text ++ putBy (stateOf p i l o) (stateOf r i′ l′ o′) t) (stateOf r i′ l′ o′)
-    one-more = goes (run .runs) was-found (stateOf r i′ l′ o′) t
-
-    pub runs-on : r .streams .found ≡ true → RunsTo input line output (stateOf r i′ l′ o′) (left - 1)
-    runs-on e = record {
-      turns = suc (run .turns);
-      reading = readBy (stateOf p i l o) (stateOf r i′ l′ o′) t (run .reading);
-      text = run .text ++ putBy (stateOf p i l o) (stateOf r i′ l′ o′) t;
-      runs = one-more;
-      counted = λ _. omega (arith, run .counted was-found);
-      stopped = λ n. absurd (false≢true (sym n ∙ e));
-    }
-
-    pub runs-out : r .streams .found ≡ false → RunsTo input line output (stateOf r i′ l′ o′) 0
-    runs-out n = record {
-      turns = suc (run .turns);
-      reading = readBy (stateOf p i l o) (stateOf r i′ l′ o′) t (run .reading);
-      text = run .text ++ putBy (stateOf p i l o) (stateOf r i′ l′ o′) t;
-      runs = one-more;
-      counted = λ e. absurd (false≢true (sym n ∙ e));
-      stopped = λ _. refl;
-    }
+-- the program starts with nothing read
+pub runs-start : {input line output : List ℕ} (s : Streams) → s ≡ nothingRead
+    → RunsTo program (first input line output) (stateOf (record { streams = s; held = 0; number = firstNumber }) input line output) 18446744073709551615
+runs-start {input} {line} {output} s e =
+    subst (λ (x : Streams). RunsTo program (first input line output) (stateOf (record { streams = x; held = 0; number = firstNumber }) input line output) 18446744073709551615)
+    (sym e) (runs-begin program (first input line output) refl)

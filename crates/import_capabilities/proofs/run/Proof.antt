@@ -4,9 +4,10 @@ use lib.ListN.{length}
 use mathlib.Core.Path.{_≡_, refl, ap}
 use native.Mathlib.Omega.{arith}
 use Rattle.lines.specs.declared.Streams.{Streams}
-use Rattle.import_capabilities.specs.Runs.{stateOf, RunsTo}
+use Rattle.lines.specs.Runs.{RunsTo}
+use Rattle.lines.proofs.Runs.{runs-begin, runs-on, runs-out}
+use Rattle.import_capabilities.specs.Runs.{stateOf, program, first}
 use Rattle.import_capabilities.proofs.Laws.{turn-few}
-use Rattle.import_capabilities.proofs.Runs.{runs-begin, runs-on, runs-out}
 use Rattle.import_capabilities.proofs.run.Statement.{statement}
 use Rattle.import_capabilities.proofs.run.Tie as tie
 
@@ -16,7 +17,7 @@ Inv-loop input₀ area₀ output₀ progress₀ turns₀ input area output progr
     × (length area ≡ length area₀)
     × (length output ≡ length output₀)
     × (progress .line .count ≤ 64)
-    × RunsTo (stateOf progress₀ input₀ area₀ output₀) (stateOf progress input area output) turns
+    × RunsTo program (first progress₀ input₀ area₀ output₀) (stateOf progress input area output) turns
 
 abbrev μ-loop : tie.MeasureT-loop
 μ-loop input₀ area₀ output₀ progress₀ turns₀ input area output progress turns = turns
@@ -27,7 +28,7 @@ begin-requires c κs = search needs
 loop-holds : tie.Need-loop-holds Inv-loop μ-loop
 loop-holds c =
     let b = c .before .before .begin .ensures in
-    (refl, refl, refl, omega (arith, b .none), runs-begin _ (ap (λ (s : Streams). s .found) (b .streams)))
+    (refl, refl, refl, omega (arith, b .none), runs-begin program _ (ap (λ (s : Streams). s .found) (b .streams)))
 
 take-turn-requires : tie.Need-take-turn-requires Inv-loop μ-loop
 take-turn-requires c κs = search needs
@@ -42,7 +43,7 @@ loop-again : tie.Need-loop-again Inv-loop μ-loop
 loop-again c =
     let d = c .before .before .before .before .before .before .before .before .before .before .before .before .before in
     let t = c .before .before .before .before .before .before .before .before .take-turn .ensures in
-    (search needs, search needs, search needs, turn-few t, runs-on (d .loop .inv .4) (c .before .before .before .before .before .before .before .before .before .before .before .before .loop-test .taken) t (c .if1 .taken))
+    (search needs, search needs, search needs, turn-few t, runs-on program _ (d .loop .inv .4) (c .before .before .before .before .before .before .before .before .before .before .before .before .loop-test .taken) _ t (c .if1 .taken))
 
 loop-less-2 : tie.Need-loop-less-2 Inv-loop μ-loop
 loop-less-2 c = search needs
@@ -51,7 +52,7 @@ loop-again-2 : tie.Need-loop-again-2 Inv-loop μ-loop
 loop-again-2 c =
     let d = c .before .before .before .before .before .before .before .before .before .before .before .before .before in
     let t = c .before .before .before .before .before .before .before .before .take-turn .ensures in
-    (search needs, search needs, search needs, turn-few t, runs-out (d .loop .inv .4) (c .before .before .before .before .before .before .before .before .before .before .before .before .loop-test .taken) t (c .if1 .left))
+    (search needs, search needs, search needs, turn-few t, runs-out program _ (d .loop .inv .4) (c .before .before .before .before .before .before .before .before .before .before .before .before .loop-test .taken) _ t (c .if1 .left))
 
 put-all-missing-requires : tie.Need-put-all-missing-requires Inv-loop μ-loop
 put-all-missing-requires c κs = search needs

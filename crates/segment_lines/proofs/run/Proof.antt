@@ -3,9 +3,11 @@ use Prim.Native.Nat.{_≤_}
 use lib.ListN.{length}
 use mathlib.Core.Path.{_≡_, refl}
 use native.Mathlib.Omega.{arith}
-use Rattle.segment_lines.specs.Runs.{stateOf, RunsTo}
+use Rattle.lines.specs.Runs.{RunsTo}
+use Rattle.lines.proofs.Runs.{runs-on, runs-out}
+use Rattle.segment_lines.specs.Runs.{stateOf, program, first}
 use Rattle.segment_lines.proofs.Laws.{turn-few}
-use Rattle.segment_lines.proofs.Runs.{runs-begin, runs-on, runs-out}
+use Rattle.segment_lines.proofs.Runs.{runs-start}
 use Rattle.segment_lines.proofs.run.Statement.{statement}
 use Rattle.segment_lines.proofs.run.Tie as tie
 
@@ -15,7 +17,7 @@ Inv-loop input₀ line₀ output₀ progress₀ turns₀ input line output progr
     × (length line ≡ length line₀)
     × (length output ≡ length output₀)
     × (progress .held ≤ length line)
-    × RunsTo input₀ line₀ output₀ (stateOf progress input line output) turns
+    × RunsTo program (first input₀ line₀ output₀) (stateOf progress input line output) turns
 
 abbrev μ-loop : tie.MeasureT-loop
 μ-loop input₀ line₀ output₀ progress₀ turns₀ input line output progress turns = turns
@@ -24,7 +26,7 @@ start-requires : tie.Need-start-requires Inv-loop μ-loop
 start-requires c κs = search needs
 
 loop-holds : tie.Need-loop-holds Inv-loop μ-loop
-loop-holds c = (refl, refl, refl, omega arith, runs-begin (c .start .result) (c .start .ensures))
+loop-holds c = (refl, refl, refl, omega arith, runs-start (c .start .result) (c .start .ensures))
 
 take-turn-requires : tie.Need-take-turn-requires Inv-loop μ-loop
 take-turn-requires c κs = search needs
@@ -39,7 +41,7 @@ loop-again : tie.Need-loop-again Inv-loop μ-loop
 loop-again c =
     let d = c .before .before .before .before .before .before .before .before .before .before .before .before .before in
     let t = c .before .before .before .before .before .before .before .before .take-turn .ensures in
-    (search needs, search needs, search needs, turn-few t, runs-on (d .loop .inv .4) (omega arith) t (c .if1 .taken))
+    (search needs, search needs, search needs, turn-few t, runs-on program _ (d .loop .inv .4) (omega arith) _ t (c .if1 .taken))
 
 loop-less-2 : tie.Need-loop-less-2 Inv-loop μ-loop
 loop-less-2 c = search needs
@@ -48,7 +50,7 @@ loop-again-2 : tie.Need-loop-again-2 Inv-loop μ-loop
 loop-again-2 c =
     let d = c .before .before .before .before .before .before .before .before .before .before .before .before .before in
     let t = c .before .before .before .before .before .before .before .before .take-turn .ensures in
-    (search needs, search needs, search needs, turn-few t, runs-out (d .loop .inv .4) (omega arith) t (c .if1 .left))
+    (search needs, search needs, search needs, turn-few t, runs-out program _ (d .loop .inv .4) (omega arith) _ t (c .if1 .left))
 
 flush-requires : tie.Need-flush-requires Inv-loop μ-loop
 flush-requires c κs = search needs
