@@ -55,7 +55,7 @@ pub record Within (s : Streams) (input output : List ℕ) : Type 0 where
 abbrev pub withWaiting : Streams → ℕ → Bool → Streams
 withWaiting s waiting taken = record { from = s .from; to = s .to; ends = s .ends; filled = s .filled; found = s .found; waiting = waiting; taken = taken }
 
--- what waited was written out; what standard output did not take before, it was not given
+-- nothing waits any more: what waited was given to standard output, unless that takes no more, which stays so
 pub record Flushed (s r : Streams) : Type 0 where
   pub emptied : r ≡ withWaiting s 0 (r .taken)
   pub untaken : s .taken ≡ false → r .taken ≡ false
