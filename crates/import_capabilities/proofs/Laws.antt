@@ -9,13 +9,13 @@ use Rattle.octets.specs.Parts.{part, write}
 use Rattle.octets.specs.declared.Written.the-variants.{Count}
 use Rattle.octets.proofs.Tests.{cases}
 use Rattle.octets.proofs.Parts.{part-length, write-start}
-use Rattle.octets.proofs.Writing.{written-fits, output-fits}
 use Rattle.lines.specs.Streams.{TextWaits, isWhole}
 use Rattle.lines.specs.declared.Streams.{Streams}
 use Rattle.line_fields.specs.Lines.{textWritten, textOutput}
 use Rattle.import_tray.specs.Awaited.{missingText}
 use Rattle.import_tray.specs.declared.Tray.{Tray}
 use Rattle.import_frames.specs.Frames.{Step}
+use Rattle.import_lines.proofs.Laws.{text-fits}
 use Rattle.import_lines.specs.Steps.{stepped, importedOf, areaAfter, outputAfter}
 use Rattle.import_capabilities.specs.declared.Progress.{Progress}
 use Rattle.import_capabilities.specs.Turns.{Turn, Missing}
@@ -37,9 +37,7 @@ module _ (output : List ℕ) (at : ℕ) (fits : at + 231 ≤ length output) wher
   behind-long = part-length output at (length output - at) (omega arith)
 
   pub text-put : (text : List ℕ) → length text ≤ 231 → (textWritten text behind ≡ Count (length text)) × (textOutput text behind ≡ write behind 0 text)
-  text-put text short =
-      let h : length text ≤ length behind = omega (arith, behind-long) in
-      (written-fits text behind h, output-fits text behind h)
+  text-put text short = text-fits text behind short (omega (arith, behind-long))
 
   pub step-done : (tray : Tray) (x : Step) (area next : List ℕ)
       → (importedOf tray x behind ≡ stepped x) × (areaAfter area next behind ≡ next) × (outputAfter x behind ≡ write behind 0 (x .text))

@@ -48,10 +48,10 @@ piece-within s r input output from filled e some few fits waits = record {
 }
 
 -- the first piece of what was read
-pub piece-read : (s f r : Streams) (after : List ℕ) (filled : ℕ) → Flushed s f → filled ≤ length after → (f .taken ≡ false → filled ≡ 0)
-    → r ≡ pieceFrom f after 0 filled → Read s r after
-piece-read s f r after filled x few none e =
-    subst (λ (r : Streams). Read s r after) (sym e) record {
+pub piece-read : (s f r : Streams) (output after : List ℕ) (filled : ℕ) → Flushed s output f → filled ≤ length after → (f .taken ≡ false → filled ≡ 0)
+    → r ≡ pieceFrom f after 0 filled → Read s output r after
+piece-read s f r output after filled x few none e =
+    subst (λ (r : Streams). Read s output r after) (sym e) record {
       first = λ i. record {
         from = 0;
         to = newlineFrom after 0 filled;
@@ -63,6 +63,7 @@ piece-read s f r after filled x few none e =
       };
       fits = few;
       untaken = x .untaken;
+      past = x .past;
       unread = none;
     }
 
@@ -78,7 +79,7 @@ module _ (s : Streams) (input output : List ℕ) where
   pub found-left : (r : Streams) → isLeft s input output ≡ true → r ≡ pieceFrom s input (nextPlace s) (s .filled) → Found s input output r input
   found-left r e x = record { left = λ _. (x, refl); read = λ n. absurd (false≢true (sym n ∙ e)) }
 
-  pub found-read : (r : Streams) (after : List ℕ) → isLeft s input output ≡ false → Read s r after → Found s input output r after
+  pub found-read : (r : Streams) (after : List ℕ) → isLeft s input output ≡ false → Read s output r after → Found s input output r after
   found-read r after e x = record { left = λ y. absurd (false≢true (sym e ∙ y)); read = λ _. x }
 
 -- ---- room
@@ -87,7 +88,7 @@ module _ (s : Streams) (output : List ℕ) (room : ℕ) where
   pub room-enough : hasRoom s output room ≡ true → RoomMade s output room s
   room-enough e = record { enough = λ _. refl; less = λ n. absurd (false≢true (sym n ∙ e)) }
 
-  pub room-less : (r : Streams) → hasRoom s output room ≡ false → Flushed s r → RoomMade s output room r
+  pub room-less : (r : Streams) → hasRoom s output room ≡ false → Flushed s output r → RoomMade s output room r
   room-less r e x = record { enough = λ y. absurd (false≢true (sym e ∙ y)); less = λ _. x }
 
 -- ---- a text that waits

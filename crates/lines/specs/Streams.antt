@@ -1,6 +1,6 @@
 -- How far a program has come in its input and its output. What is read, and whether what is written out is taken, the system answers; all else
 -- is said here.
-use Prim.Native.Nat.{ℕ, suc, _+_, _-_, _≤_}
+use Prim.Native.Nat.{ℕ, suc, _+_, _-_, _≤_, _<_}
 use mathlib.Core.Bool.{Bool, true, false, _&&_, _||_, not, cond}
 use mathlib.Core.List.{List, [], _∷_}
 use mathlib.Core.Path.{_≡_}
@@ -56,9 +56,11 @@ abbrev pub withWaiting : Streams → ℕ → Bool → Streams
 withWaiting s waiting taken = record { from = s .from; to = s .to; ends = s .ends; filled = s .filled; found = s .found; waiting = waiting; taken = taken }
 
 -- nothing waits any more: what waited was given to standard output, unless that takes no more, which stays so
-pub record Flushed (s r : Streams) : Type 0 where
+pub record Flushed (s : Streams) (output : List ℕ) (r : Streams) : Type 0 where
   pub emptied : r ≡ withWaiting s 0 (r .taken)
   pub untaken : s .taken ≡ false → r .taken ≡ false
+  -- text past the output's end is given to nobody
+  pub past : length output < s .waiting → r .taken ≡ s .taken
 
 -- there is room for so much more text
 abbrev pub hasRoom : Streams → List ℕ → ℕ → Bool
@@ -67,7 +69,7 @@ hasRoom s output room = leb (s .waiting) (length output) && leb room (length out
 -- room made: where there is less, what waits is written out
 pub record RoomMade (s : Streams) (output : List ℕ) (room : ℕ) (r : Streams) : Type 0 where
   pub enough : hasRoom s output room ≡ true → r ≡ s
-  pub less : hasRoom s output room ≡ false → Flushed s r
+  pub less : hasRoom s output room ≡ false → Flushed s output r
 
 -- what waits with so much more text; as much as before where that is past the output's end, and nothing where what waited was past it
 unfoldable pub waitingAfter : ℕ → List ℕ → ℕ → ℕ
@@ -87,16 +89,17 @@ abbrev pub isLeft : Streams → List ℕ → List ℕ → Bool
 isLeft s input output = leb (s .filled) (length input) && (leb (s .waiting) (length output) && ltb (nextPlace s) (s .filled))
 
 -- what was read: the first piece of it, what waits written out; nothing is read where standard output takes no more
-pub record Read (s r : Streams) (after : List ℕ) : Type 0 where
+pub record Read (s : Streams) (output : List ℕ) (r : Streams) (after : List ℕ) : Type 0 where
   pub first : r ≡ pieceFrom (withWaiting s 0 (r .taken)) after 0 (r .filled)
   pub fits : r .filled ≤ length after
   pub untaken : s .taken ≡ false → r .taken ≡ false
+  pub past : length output < s .waiting → r .taken ≡ s .taken
   pub unread : r .taken ≡ false → r .filled ≡ 0
 
 -- the next piece found, with the input buffer before and after: of what is left, or of what was read
 pub record Found (s : Streams) (input output : List ℕ) (r : Streams) (after : List ℕ) : Type 0 where
   pub left : isLeft s input output ≡ true → (r ≡ pieceFrom s input (nextPlace s) (s .filled)) × (after ≡ input)
-  pub read : isLeft s input output ≡ false → Read s r after
+  pub read : isLeft s input output ≡ false → Read s output r after
 
 -- a line is whole of which so many characters are held: "ended by a newline or the end of input (nothing after the last newline is no line)"
 abbrev pub isWhole : Streams → ℕ → Bool

@@ -71,7 +71,7 @@ fn piece_from(streams: Streams, input: &[u8], from: usize, filled: usize) -> Str
 
 // Writes out the text that waits.
 pub fn flush(streams: Streams, output: &[u8]) -> Streams
-    ensures { λ r. ⌜ Flushed streams r × (r .waiting ≡ 0) ⌝ }
+    ensures { λ r. ⌜ Flushed streams (now (output .entry)) r × (r .waiting ≡ 0) ⌝ }
 {
     let waiting = streams.waiting;
     let mut after = streams;
@@ -99,7 +99,7 @@ fn next_place(streams: Streams) -> usize
 
 // Writes out what waits, and reads on.
 fn read_more(streams: Streams, input: &mut [u8], output: &[u8]) -> Streams
-    ensures { λ r. ⌜ Read streams r (now (input .exit)) × Within r (now (input .exit)) (now (output .entry)) ⌝ }
+    ensures { λ r. ⌜ Read streams (now (output .entry)) r (now (input .exit)) × Within r (now (input .exit)) (now (output .entry)) ⌝ }
 {
     let flushed = flush(streams, output);
     if flushed.taken {

@@ -65,7 +65,7 @@ abbrev pub textFrom : TransactionNumber → List (List ℕ) → List ℕ
 textFrom t [] = []
 textFrom t (line ∷ lines) = lineText t line ++ textFrom (lineNext t line) lines
 
--- "the whole output", where the buffers of the line and of the output have the program's lengths or more
+-- "the whole output", where the line's buffer has one character more than the longest message has digits, and the output room for any text
 abbrev pub WholeOutput : Type 0
 WholeOutput =
     (input line output : List ℕ) → length line ≡ 2939 → 3776 ≤ length output

@@ -18,7 +18,7 @@ write-all-requires : tie.Need-write-all-requires
 write-all-requires c κs = search needs
 
 returns-2 : tie.Need-returns-2
-returns-2 c = (record { emptied = refl; untaken = λ e. absurd (false≢true (sym e ∙ c .before .before .if2 .taken)) }, refl)
+returns-2 c = (record { emptied = refl; untaken = λ e. absurd (false≢true (sym e ∙ c .before .before .if2 .taken)); past = λ h. absurd (omega arith) }, refl)
 
 returns-3 : tie.Need-returns-3
 returns-3 c = search needs

@@ -27,7 +27,7 @@ returns c =
     let taken = c .before .before .before .before .before .before .before .before .if1 .taken in
     let after = c .before .before .before .before .before .before .read .last .1 .0 in
     let e = c .piece-from .ensures in
-    (piece-read _ (f .result) _ after _ (f .ensures .0) (omega arith) (λ n. absurd (false≢true (sym n ∙ taken))) (e .0), piece-within (f .result) _ after _ 0 _ (e .0) (e .1) (e .2) (omega arith) (omega arith))
+    (piece-read _ (f .result) _ _ after _ (f .ensures .0) (omega arith) (λ n. absurd (false≢true (sym n ∙ taken))) (e .0), piece-within (f .result) _ after _ 0 _ (e .0) (e .1) (e .2) (omega arith) (omega arith))
 
 piece-from-requires-2 : tie.Need-piece-from-requires-2
 piece-from-requires-2 c κs = search needs
@@ -40,7 +40,7 @@ returns-2 c =
     let f = c .before .before .before .flush in
     let a = c .before .before .before .before .before .before .args in
     let e = c .piece-from2 .ensures in
-    (piece-read (a .streams) (f .result) _ (a .input .now) 0 (f .ensures .0) (omega arith) (λ _. refl) (e .0), piece-within (f .result) _ (a .input .now) _ 0 0 (e .0) (e .1) (e .2) (omega arith) (omega arith))
+    (piece-read (a .streams) (f .result) _ _ (a .input .now) 0 (f .ensures .0) (omega arith) (λ _. refl) (e .0), piece-within (f .result) _ (a .input .now) _ 0 0 (e .0) (e .1) (e .2) (omega arith) (omega arith))
 
 pub read-more-spec : {M : Type 1} → statement M
 read-more-spec =
