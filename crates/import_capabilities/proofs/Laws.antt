@@ -5,12 +5,13 @@ use mathlib.Core.List.{List}
 use mathlib.Core.Path.{_≡_, refl, sym, _∙_}
 use lib.ListN.{length, drop, length-append, length-drop}
 use borrow.Author.Tests.{le-leb}
-use Rattle.octets.specs.Parts.{part, write}
+use Rattle.octets.specs.Parts.{write}
 use Rattle.octets.specs.declared.Written.the-variants.{Count}
 use Rattle.octets.proofs.Tests.{cases}
-use Rattle.octets.proofs.Parts.{part-length, write-start}
+use Rattle.octets.proofs.Parts.{write-start}
 use Rattle.lines.specs.Streams.{TextWaits, isWhole}
 use Rattle.lines.specs.declared.Streams.{Streams}
+use Rattle.lines.proofs.Laws.{behind, behind-long}
 use Rattle.line_fields.specs.Lines.{textWritten, textOutput}
 use Rattle.import_tray.specs.Awaited.{missingText}
 use Rattle.import_tray.specs.declared.Tray.{Tray}
@@ -27,22 +28,19 @@ write-within l d e =
     let long : length (write l 0 d) ≡ length d + (length l - length d) = rw (write-start l d) (length-append d (drop (length d) l) ∙ rw (length-drop (length d) l)) in
     omega arith
 
--- ---- what lies behind the text that waits, with room for any line
+-- ---- behind the text that waits, with room for any line
 
 module _ (output : List ℕ) (at : ℕ) (fits : at + 231 ≤ length output) where
-  abbrev pub behind : List ℕ
-  behind = part output at (length output - at)
+  room : 231 ≤ length (behind output at)
+  room = omega (arith, behind-long output at (omega arith))
 
-  pub behind-long : length behind ≡ length output - at
-  behind-long = part-length output at (length output - at) (omega arith)
-
-  pub text-put : (text : List ℕ) → length text ≤ 231 → (textWritten text behind ≡ Count (length text)) × (textOutput text behind ≡ write behind 0 text)
-  text-put text short = text-fits text behind short (omega (arith, behind-long))
+  pub text-put : (text : List ℕ) → length text ≤ 231 → (textWritten text (behind output at) ≡ Count (length text)) × (textOutput text (behind output at) ≡ write (behind output at) 0 text)
+  text-put text short = text-fits text (behind output at) short room
 
   pub step-done : (tray : Tray) (x : Step) (area next : List ℕ)
-      → (importedOf tray x behind ≡ stepped x) × (areaAfter area next behind ≡ next) × (outputAfter x behind ≡ write behind 0 (x .text))
+      → (importedOf tray x (behind output at) ≡ stepped x) × (areaAfter area next (behind output at) ≡ next) × (outputAfter x (behind output at) ≡ write (behind output at) 0 (x .text))
   unfolding importedOf areaAfter outputAfter
-  step-done tray x area next = rw (le-leb 231 (length behind) (omega (arith, behind-long))) (refl, refl, refl)
+  step-done tray x area next = rw (le-leb 231 (length (behind output at)) room) (refl, refl, refl)
 
 -- ---- turns and sockets
 

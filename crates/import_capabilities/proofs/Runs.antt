@@ -13,9 +13,9 @@ use Rattle.octets.proofs.Parts.{write-longer}
 use Rattle.lines.specs.Streams.{nothingRead, pieceIn, withWaiting, isWhole}
 use Rattle.lines.specs.declared.Streams.{Streams}
 use Rattle.lines.specs.Lines.{linesOf, Reading, atStart, Follows, oneIf}
-use Rattle.lines.specs.Lines.Follows.{begins as reading-begins, goes as reading-goes}
+use Rattle.lines.specs.Lines.Follows.{begins as reading-begins}
 use Rattle.lines.proofs.Laws.{found-waiting, text-same, text-within}
-use Rattle.lines.proofs.Lines.{lines-found}
+use Rattle.lines.proofs.Lines.{lines-found, reads-on}
 use Rattle.stock_record.specs.Texts.{headerLine}
 use Rattle.import_frames.specs.Frames.{Step}
 use Rattle.import_lines.specs.Lines.{lineStep, lineArea}
@@ -78,13 +78,9 @@ module _ (ρ : State) where
     abbrev line : List ℕ
     line = x .held ++ pieceIn (read .streams) (τ .input)
 
-    found-before : x .streams .found ≡ true
-    found-before = sym (ap (λ (s : Streams). s .found) (a .streams)) ∙ found
-
     follows-on : Follows (ρ .input) (readBy σ τ t x)
     follows-on =
-        reading-goes (a .follows) found-before (σ .progress .streams) (a .streams) (σ .output) (a .waiting) (read .streams) (τ .input)
-        (rw (a .same-input) at (t .piece .found))
+        reads-on (a .follows) (σ .progress .streams) (a .streams) found (σ .input) (a .same-input) (σ .output) (a .waiting) (read .streams) (τ .input) (t .piece .found)
 
     held-line : heldText (read .line) ≡ heldOf line
     held-line = (rw (a .held) at (t .piece .text)) ∙ sym (held-append [] (x .held) (pieceIn (read .streams) (τ .input)))

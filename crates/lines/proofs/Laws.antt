@@ -10,7 +10,7 @@ use lib.Seq.{length-take-le, drop-cons, getD-take}
 use borrow.Author.Tests.{le-leb, ne-eqb, leb-true, ltb-true}
 use Rattle.octets.proofs.Tests.{cases, both-hold}
 use Rattle.octets.specs.Parts.{part, write}
-use Rattle.octets.proofs.Parts.{write-length, write-longer, write-behind}
+use Rattle.octets.proofs.Parts.{part-length, write-length, write-longer, write-behind}
 use Rattle.lines.specs.declared.Streams.{Streams}
 use Rattle.lines.specs.Streams.{newlineFrom, pieceFrom, nextPlace, Within, withWaiting, Flushed, hasRoom, RoomMade, waitingAfter, TextWaits, isLeft, Read, Found}
 
@@ -97,12 +97,19 @@ pub waits-too : (waiting : ℕ) (output : List ℕ) (count : ℕ) → waiting + 
 unfolding waitingAfter
 waits-too waiting output count h = rw (le-leb waiting (length output) (omega arith), le-leb count (length output - waiting) (omega arith))
 
--- a text at the start of what lies behind what waits, back in its place, and so much more text waiting
+-- what lies behind what waits
+abbrev pub behind : List ℕ → ℕ → List ℕ
+behind output at = part output at (length output - at)
+
+pub behind-long : (output : List ℕ) (at : ℕ) → at ≤ length output → length (behind output at) ≡ length output - at
+behind-long output at h = part-length output at (length output - at) (omega arith)
+
+-- a text at its start, back in its place, and so much more text waiting
 module _ (s before r : Streams) (output : List ℕ) (room : ℕ) (text : List ℕ) where
   abbrev pub putBack : List ℕ
   putBack =
       take (before .waiting) output
-      ++ (write (part output (before .waiting) (length output - before .waiting)) 0 text ++ drop (length output - before .waiting) (drop (before .waiting) output))
+      ++ (write (behind output (before .waiting)) 0 text ++ drop (length output - before .waiting) (drop (before .waiting) output))
 
   pub text-waits : RoomMade s output room before → before .waiting + length text ≤ length output
       → r ≡ withWaiting before (waitingAfter (before .waiting) putBack (length text)) (before .taken) → TextWaits s output room text r putBack

@@ -183,3 +183,10 @@ keeps input x (goes {x = y} f found t same output w next after c) = kept-on y (k
 
 pub lines-found : LinesFound
 lines-found input x f none = keeps input x f .ended none
+
+-- a program's next call is of the reading so far, where its streams are those of the reading but for what waits
+pub reads-on : {input : List ℕ} {x : Reading} → Follows input x → (s : Streams) → s ≡ withWaiting (x .streams) (s .waiting) (s .taken) → s .found ≡ true
+    → (i : List ℕ) → i ≡ x .input → (output : List ℕ) → s .waiting ≤ length output → (r : Streams) (after : List ℕ) → Found s i output r after
+    → Follows input (readOn x s output r after)
+reads-on f s same found i e output w next after c =
+    goes f (sym (ap (λ (t : Streams). t .found) same) ∙ found) s same output w next after (rw e at c)

@@ -1,45 +1,41 @@
 -- A line's text behind what waits, and what a turn leaves of the line.
-use Prim.Native.Nat.{ℕ, _+_, _-_, _≤_}
+use Prim.Native.Nat.{ℕ, _+_, _≤_}
 use native.Mathlib.Omega.{arith}
 use mathlib.Core.List.{List}
 use mathlib.Core.Path.{_≡_, sym}
 use lib.ListN.{length}
-use Rattle.octets.specs.Parts.{part, write}
+use Rattle.octets.specs.Parts.{write}
 use Rattle.octets.proofs.Tests.{cases}
-use Rattle.octets.proofs.Parts.{part-length}
 use Rattle.transactions.specs.declared.TransactionNumber.{TransactionNumber}
 use Rattle.hex_lines.specs.Lines.{lineText, lineNext, lineWritten, lineOutput}
 use Rattle.hex_lines.specs.declared.LineWritten.the-variants.{Text, OutputTooShort}
 use Rattle.hex_lines.proofs.Laws.{enough, text-fits}
 use Rattle.lines.specs.Streams.{isWhole}
+use Rattle.lines.proofs.Laws.{behind, behind-long}
 use Rattle.segment_lines.specs.declared.Progress.{Progress}
 use Rattle.segment_lines.specs.Turns.{Turn}
 
 module _ (number : TransactionNumber) (held output : List ℕ) (at : ℕ) (fits : at + 3776 ≤ length output) where
-  -- what lies behind the text that waits
-  abbrev pub behind : List ℕ
-  behind = part output at (length output - at)
-
   abbrev pub text : List ℕ
   text = lineText number held
 
   short : length text ≤ 3776
   short = enough number held
 
-  behind-long : length behind ≡ length output - at
-  behind-long = part-length output at (length output - at) (omega arith)
+  room : length text ≤ length (behind output at)
+  room = omega (arith, short, behind-long output at (omega arith))
 
-  pub text-written : lineWritten number held behind ≡ Text (length text) (lineNext number held)
-  text-written = sym (text-fits text behind (lineNext number held) (omega (arith, short, behind-long)) .0)
+  pub text-written : lineWritten number held (behind output at) ≡ Text (length text) (lineNext number held)
+  text-written = sym (text-fits text (behind output at) (lineNext number held) room .0)
 
-  pub text-never : lineWritten number held behind ≡ OutputTooShort → ⊥
+  pub text-never : lineWritten number held (behind output at) ≡ OutputTooShort → ⊥
   text-never e = let z : _≡_ {A = ℕ} 0 1 = cc text-written in omega arith
 
-  pub text-counts : {n : ℕ} {next : TransactionNumber} → lineWritten number held behind ≡ Text n next → (n ≡ length text) × (next ≡ lineNext number held)
+  pub text-counts : {n : ℕ} {next : TransactionNumber} → lineWritten number held (behind output at) ≡ Text n next → (n ≡ length text) × (next ≡ lineNext number held)
   text-counts e = (cc text-written, cc text-written)
 
-  pub text-output : lineOutput number held behind ≡ write behind 0 text
-  text-output = sym (text-fits text behind (lineNext number held) (omega (arith, short, behind-long)) .1)
+  pub text-output : lineOutput number held (behind output at) ≡ write (behind output at) 0 text
+  text-output = sym (text-fits text (behind output at) (lineNext number held) room .1)
 
   pub text-room : at + length text ≤ length output
   text-room = omega (arith, short)

@@ -17,9 +17,9 @@ use Rattle.hex_lines.proofs.Laws.{front-does-the-same}
 use Rattle.lines.specs.Streams.{nothingRead, pieceIn, withWaiting, isWhole}
 use Rattle.lines.specs.declared.Streams.{Streams}
 use Rattle.lines.specs.Lines.{linesOf, Reading, Follows, oneIf}
-use Rattle.lines.specs.Lines.Follows.{begins as reading-begins, goes as reading-goes}
+use Rattle.lines.specs.Lines.Follows.{begins as reading-begins}
 use Rattle.lines.proofs.Laws.{found-waiting, text-same, text-within}
-use Rattle.lines.proofs.Lines.{lines-found}
+use Rattle.lines.proofs.Lines.{lines-found, reads-on}
 use Rattle.segment_lines.specs.declared.Progress.{Progress}
 use Rattle.segment_lines.specs.Turns.{heldText, Turn}
 use Rattle.segment_lines.specs.Runs.{State, firstNumber, stateOf, TurnTo, putBy, readBy, program, first, textFrom, WholeOutput}
@@ -75,13 +75,9 @@ module _ (input : List ℕ) (x : Reading) (text : List ℕ) (σ : State) (a : Ag
   abbrev line : List ℕ
   line = x .held ++ pieceIn (read .streams) (τ .input)
 
-  found-before : x .streams .found ≡ true
-  found-before = sym (ap (λ (s : Streams). s .found) (a .streams)) ∙ found
-
   follows-on : Follows input (readBy σ τ t x)
   follows-on =
-      reading-goes (a .follows) found-before (σ .progress .streams) (a .streams) (σ .output) (a .waiting) (read .streams) (τ .input)
-      (rw (a .same-input) at (t .piece .found))
+      reads-on (a .follows) (σ .progress .streams) (a .streams) found (σ .input) (a .same-input) (σ .output) (a .waiting) (read .streams) (τ .input) (t .piece .found)
 
   held-front : heldText read (τ .line) ≡ take 2939 line
   held-front =

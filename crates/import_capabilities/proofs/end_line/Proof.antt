@@ -1,10 +1,10 @@
 use mathlib.Core.Path.{refl, sym, ap, _∙_}
 use lib.ListN.{length}
 use native.Mathlib.Omega.{arith}
-use Rattle.lines.proofs.Laws.{text-waits}
+use Rattle.lines.proofs.Laws.{behind, behind-long, text-waits}
 use Rattle.import_lines.specs.Lines.{lineArea}
 use Rattle.import_capabilities.specs.Turns.{heldText, stepOf}
-use Rattle.import_capabilities.proofs.Laws.{write-within, behind, behind-long, step-done}
+use Rattle.import_capabilities.proofs.Laws.{write-within, step-done}
 use borrow.Author.Needs.{needs}
 use Rattle.import_capabilities.proofs.end_line.Statement.{statement}
 use Rattle.import_capabilities.proofs.end_line.Tie as tie
@@ -52,11 +52,11 @@ returns c =
     let n = c .before .before .before .before .before .before .before .before .before .before .before .before .before .next-number in
     let h = rw (n .ensures) at (held .ensures) in
     let kept = ap length (sym (h .2 ∙ done .2)) ∙ held .kept .1 .1 .1 .1 .0 in
-    let short = write-within (behind (a .output .now) at fits) (x .text) kept in
+    let short = write-within (behind (a .output .now) at) (x .text) kept in
     rw (h .0, done .0, h .1, done .1, h .2, done .2, n .ensures)
     record {
       text = text-waits (a .progress .streams) (room .result) (c .before .waits .result) (a .output .now) 231 (x .text) (room .ensures .0)
-          (omega (arith, short, behind-long (a .output .now) at fits, fits)) (rw (h .0, done .0, h .2, done .2) at (c .before .waits .ensures));
+          (omega (arith, short, behind-long (a .output .now) at (omega (arith, fits)), fits)) (rw (h .0, done .0, h .2, done .2) at (c .before .waits .ensures));
       none = c .empty-line .ensures;
       number = refl;
       tray = refl;
