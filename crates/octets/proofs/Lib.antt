@@ -1,4 +1,5 @@
 pub mod Tests
+pub mod Tables
 pub mod Parts
 pub mod Cut
 pub mod Writing

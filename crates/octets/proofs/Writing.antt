@@ -1,18 +1,19 @@
--- Laws of writers to a lent output, and the promise of `specs/Promises.antt`.
+-- Laws of writers to a lent output, and the promises of `specs/Promises.antt`.
 use Prim.Native.Nat.{ℕ, _≤_, _<_}
 use native.Mathlib.Nat.{zero-add}
 use native.Mathlib.Omega.{arith}
-use mathlib.Core.Bool.{Bool, true, false}
+use mathlib.Core.Bool.{Bool, true, false, _||_, not}
 use mathlib.Core.List.{List}
 use mathlib.Core.Path.{_≡_, refl}
-use lib.Dec.{leb}
+use lib.Dec.{leb, ltb}
 use lib.ListN.{length, take}
-use borrow.Author.Tests.{leb-true, le-leb, lt-leb}
+use borrow.Author.Tests.{leb-true, le-leb, lt-leb, ltb-true, ltb-false}
 use Rattle.octets.specs.Parts.{write}
-use Rattle.octets.specs.Writing.{isWritten, written, outputAfter}
-use Rattle.octets.specs.Promises.{RefusalKeeps}
+use Rattle.octets.specs.Writing.{told, isWritten, written, outputAfter}
+use Rattle.octets.specs.Promises.{RefusalKeeps, writerRows, WriterTable}
 use Rattle.octets.specs.declared.Written.the-variants.{Count, WrongArgument}
 use Rattle.octets.proofs.Parts.{write-front}
+use Rattle.octets.proofs.Tables.{by-table}
 use Rattle.octets.proofs.Tests.{cases, both-hold}
 
 -- a writer whose octets fit
@@ -50,3 +51,13 @@ wrote right d output n =
 pub output-wrong : (right : Bool) (d output : List ℕ) → right ≡ false → (WrongArgument ≡ written right d output) × (output ≡ outputAfter right d output)
 unfolding written outputAfter
 output-wrong right d output h = rw h (refl, refl)
+
+pub writer-table : WriterTable
+unfolding written
+writer-table right d output =
+    by-table (told (written right d output)) (writerRows right d output) refl
+    (cases right
+    (λ r. rw r (cases (ltb (length output) (length d))
+    (λ e. rw (e, lt-leb (length d) (length output) (ltb-true (length output) (length d) e)))
+    (λ e. rw (e, le-leb (length d) (length output) (ltb-false (length output) (length d) e)))))
+    (λ r. rw r))

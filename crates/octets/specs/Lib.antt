@@ -2,5 +2,6 @@ pub mod Numbers
 pub mod Parts
 pub mod Cut
 pub mod Told
+pub mod Tables
 pub mod Writing
 pub mod Promises

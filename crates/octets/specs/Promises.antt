@@ -1,11 +1,24 @@
--- What is promised of every writer to a lent output. The proof is `refusal-keeps` of `proofs/Writing.antt`.
+-- What is promised of every writer to a lent output. The proofs are `refusal-keeps` and `writer-table` of `proofs/Writing.antt`.
 use Prim.Native.Nat.{ℕ}
-use mathlib.Core.Bool.{Bool}
-use mathlib.Core.List.{List}
+use mathlib.Core.Bool.{Bool, true, _||_, not}
+use mathlib.Core.List.{List, [], _∷_}
 use mathlib.Core.Path.{_≡_}
+use lib.Dec.{ltb}
+use lib.ListN.{length}
 use Rattle.octets.specs.Told.{refused}
+use Rattle.octets.specs.Tables.{Row, refusal, reply, ByTable}
 use Rattle.octets.specs.Writing.{told, written, outputAfter}
 
 -- a refused writer leaves its output as it was
 abbrev pub RefusalKeeps : Type 0
 RefusalKeeps = (right : Bool) (octets output : List ℕ) (n : ℕ) → told (written right octets output) ≡ refused n → outputAfter right octets output ≡ output
+
+-- "11: an argument is wrong: [..] output shorter than what is written"
+abbrev pub writerRows : Bool → List ℕ → List ℕ → List Row
+writerRows right octets output =
+    refusal 11 (not right || ltb (length output) (length octets))
+    ∷ reply "written" (length octets ∷ []) true
+    ∷ []
+
+abbrev pub WriterTable : Type 0
+WriterTable = (right : Bool) (octets output : List ℕ) → ByTable (told (written right octets output)) (writerRows right octets output)
