@@ -1,6 +1,6 @@
 -- The length of a line's text, what the reading of a line tells, and three promises: MOST octets are enough, a refusal leaves the output as it was,
 -- and the front of a long line does what the line does.
-use Prim.Native.Nat.{ℕ, zero, suc, _+_, _*_, _-_, _/_, _%_, _≤_, _<_, min}
+use Prim.Native.Nat.{ℕ, zero, suc, _+_, _*_, _/_, _%_, _≤_, _<_, min}
 use native.Mathlib.Nat.{zero-add, sub-zero}
 use native.Mathlib.Numerals.{add-one}
 use native.Mathlib.Omega.{arith}
@@ -14,7 +14,7 @@ use borrow.Author.Tests.{leb-true, leb-false, eqb-true, le-leb, lt-leb}
 use Rattle.octets.specs.Parts.{write, copyFits, copied}
 use Rattle.octets.specs.Cut.{upTo, joined}
 use Rattle.octets.specs.Told.{refused}
-use Rattle.octets.specs.Writing.{written, outputAfter}
+use Rattle.octets.specs.Writing.{told as writerTold, written, outputAfter}
 use Rattle.octets.specs.declared.Written.the-variants.{Count, WrongArgument}
 use Rattle.octets.proofs.Parts.{write-octet, write-next, write-front}
 use Rattle.octets.proofs.Cut.{joined-up-to}
@@ -127,7 +127,7 @@ module _ (t : TransactionNumber) {m : List ℕ} {k : ℕ} (asked : SegmentAsked 
   frame-count e = cc frame-written
 
   pub frame-front : take (length (segmentFrame 1 t m k)) (outputAfter (isSegment m k) (segmentFrame 1 t m k) frameRoom) ≡ segmentFrame 1 t m k
-  frame-front = wrote (isSegment m k) (segmentFrame 1 t m k) frameRoom (length (segmentFrame 1 t m k)) frame-written .1
+  frame-front = wrote (isSegment m k) (segmentFrame 1 t m k) frameRoom (length (segmentFrame 1 t m k)) (ap writerTold frame-written) .1
 
 -- ---- a line that is refused
 

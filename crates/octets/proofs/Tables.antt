@@ -3,7 +3,7 @@ use Prim.Native.Nat.{ℕ}
 use mathlib.Core.Bool.{Bool, true, false, _&&_, _||_, not, false≢true, or-true}
 use mathlib.Core.List.{List, [], _∷_, _++_}
 use mathlib.Core.Logic.{_↔_}
-use mathlib.Core.Option.{Option, some, none}
+use mathlib.Core.Option.{some, none}
 use mathlib.Core.Path.{_≡_, refl, sym, ap, _∙_}
 use native.Mathlib.Omega.{arith}
 use lib.Dec.{eqb}
@@ -12,7 +12,7 @@ use text.Mathlib.Text.{_==_}
 use text.Mathlib.TextPositions.{eq-refl}
 use Rattle.octets.specs.Told.{Told, refused, answered}
 use Rattle.octets.specs.Tables.{Row, firstOf, noneHolds, ByTable}
-use Rattle.octets.proofs.Tests.{cases, both-hold, holds-both}
+use Rattle.octets.proofs.Tests.{cases, both-hold}
 
 -- one number, or one word
 abbrev pub alike : Told → Told → Bool
@@ -24,6 +24,10 @@ alike (answered v values) (answered w others) = v == w
 alike-self : (a : Told) → alike a a ≡ true
 alike-self (refused n) = eq-eqb n n refl
 alike-self (answered word values) = eq-refl word
+
+-- two answers of other numbers or words
+pub other-told : {B : Type 0} (a b : Told) → alike a b ≡ false → a ≡ b → B
+other-told a b n e = absurd (false≢true (sym n ∙ sym (ap (alike a) e) ∙ alike-self a))
 
 abbrev pub among : Told → List Row → Bool
 among a [] = false
@@ -74,3 +78,18 @@ by-table told rows d e = record {
         λ p. let u : some told ≡ some (r .answer) = sym e ∙ ap firstOf split ∙ i .1 p in let v : told ≡ r .answer = cc in v,
       );
 }
+
+-- rows after others: theirs count where none of the others holds
+pub first-behind : (rows later : List Row) → firstOf rows ≡ none → firstOf (rows ++ later) ≡ firstOf later
+first-behind [] later e = refl
+first-behind (r ∷ rows) later e =
+    cases (r .holds)
+    (λ h. let q : some (r .answer) ≡ none = rw h at e in let z : _≡_ {A = ℕ} 0 1 = cc in absurd (omega arith))
+    (λ h. rw h (first-behind rows later (rw h at e)))
+
+pub first-before : (rows later : List Row) (a : Told) → firstOf rows ≡ some a → firstOf (rows ++ later) ≡ some a
+first-before [] later a e = let z : _≡_ {A = ℕ} 0 1 = cc in absurd (omega arith)
+first-before (r ∷ rows) later a e =
+    cases (r .holds)
+    (λ h. rw h (rw h at e))
+    (λ h. rw h (first-before rows later a (rw h at e)))

@@ -1,7 +1,9 @@
 -- The laws that turn what a branch showed into the value of the test that a definition names, and a split on a test.
-use mathlib.Core.Bool.{Bool, true, false, _&&_, and-eq-true-iff}
+use Prim.Native.Nat.{ℕ}
+use mathlib.Core.Bool.{Bool, true, false, _&&_, _||_, not, and-eq-true-iff}
 use mathlib.Core.Path.{_≡_, refl}
-use borrow.Author.Tests.{le-leb, lt-leb, le-ltb, eq-eqb, ne-eqb}
+use lib.Dec.{leb, ltb}
+use borrow.Author.Tests.{le-leb, lt-leb, lt-ltb, le-ltb, eq-eqb, ne-eqb, leb-true, leb-false}
 
 pub ruleset tests = (le-leb, lt-leb, le-ltb, eq-eqb, ne-eqb)
 
@@ -22,3 +24,12 @@ both-hold {a} {b} e = and-eq-true-iff a b .0 e
 -- a test of two parts that hold
 pub holds-both : {a b : Bool} → a ≡ true → b ≡ true → (a && b) ≡ true
 holds-both {a} {b} p q = rw (p, q)
+
+-- ---- denials
+
+pub lt-not-le : (a b : ℕ) → ltb a b ≡ not (leb b a)
+lt-not-le a b = cases (leb b a) (λ e. rw e (le-ltb a b (leb-true b a e))) (λ e. rw e (lt-ltb a b (leb-false b a e)))
+
+pub not-both : (a b : Bool) → not (a && b) ≡ (not a || not b)
+not-both true b = refl
+not-both false b = refl

@@ -2,13 +2,14 @@
 use Prim.Native.Nat.{ℕ, _≤_, _<_}
 use native.Mathlib.Nat.{zero-add}
 use native.Mathlib.Omega.{arith}
-use mathlib.Core.Bool.{Bool, true, false, _||_, not}
-use mathlib.Core.List.{List}
+use mathlib.Core.Bool.{Bool, true, false}
+use mathlib.Core.List.{List, [], _∷_}
 use mathlib.Core.Path.{_≡_, refl}
 use lib.Dec.{leb, ltb}
 use lib.ListN.{length, take}
 use borrow.Author.Tests.{leb-true, le-leb, lt-leb, ltb-true, ltb-false}
 use Rattle.octets.specs.Parts.{write}
+use Rattle.octets.specs.Told.{answered}
 use Rattle.octets.specs.Writing.{told, isWritten, written, outputAfter}
 use Rattle.octets.specs.Promises.{RefusalKeeps, writerRows, WriterTable}
 use Rattle.octets.specs.declared.Written.the-variants.{Count, WrongArgument}
@@ -37,7 +38,7 @@ refusal-keeps right d output n =
     cases (isWritten right d output) (λ e. rw e (λ q. let z : _≡_ {A = ℕ} 0 1 = cc in absurd (omega arith))) (λ e. rw e (λ q. refl))
 
 -- octets that were written: the arguments were right, and they stand at the start of the output
-pub wrote : (right : Bool) (d output : List ℕ) (n : ℕ) → written right d output ≡ Count n → (right ≡ true) × (take n (outputAfter right d output) ≡ d)
+pub wrote : (right : Bool) (d output : List ℕ) (n : ℕ) → told (written right d output) ≡ answered "written" (n ∷ []) → (right ≡ true) × (take n (outputAfter right d output) ≡ d)
 unfolding written outputAfter
 wrote right d output n =
     cases (isWritten right d output)

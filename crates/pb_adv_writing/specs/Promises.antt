@@ -5,8 +5,8 @@ use mathlib.Core.List.{List, [], _∷_, _++_}
 use mathlib.Core.Path.{_≡_}
 use lib.ListN.{length, take, drop}
 use Rattle.octets.specs.Parts.{part, write}
-use Rattle.octets.specs.Writing.{written, outputAfter}
-use Rattle.octets.specs.declared.Written.the-variants.{Count}
+use Rattle.octets.specs.Told.{answered}
+use Rattle.octets.specs.Writing.{told, written, outputAfter}
 use Rattle.transactions.specs.Segments.{isLength, segmentPlace, segment}
 use Rattle.pb_adv.specs.Frame.{parsed, carried, indexOf, acknowledgementOctets, openOctets, ackOctets, closeOctets, isUuid}
 use Rattle.pb_adv.specs.Promises.{segmentSaid}
@@ -18,7 +18,7 @@ use Rattle.pb_adv_writing.specs.Writing.{headerOf, segmentFrame, isSegme
 -- parsing what a writer wrote gives a frame back, with the octets that it carries
 abbrev pub GivesBack : Bool → List ℕ → List ℕ → Parsed → List ℕ → Type 0
 GivesBack right frame output p d =
-    (n : ℕ) → written right frame output ≡ Count n
+    (n : ℕ) → told (written right frame output) ≡ answered "written" (n ∷ [])
     → (parsed (take n (outputAfter right frame output)) ≡ p) × (carried (take n (outputAfter right frame output)) p ≡ d)
 
 -- so for each of the five writers
