@@ -2,18 +2,18 @@
 use Prim.Native.Nat.{ℕ, _+_, _<_}
 use native.Mathlib.Omega.{arith}
 use mathlib.Core.List.{List, [], _∷_, map}
-use mathlib.Core.Path.{_≡_, refl, sym, _∙_, ap, subst}
+use mathlib.Core.Path.{_≡_, refl, sym, _∙_, ap}
 use lib.Dec.{eqb}
 use lib.ListN.{length}
 use borrow.Author.Tests.{le-leb, lt-leb, eqb-true}
+use Rattle.octets.specs.Told.{Told, refused, answered}
 use Rattle.octets.proofs.Tests.{cases}
 use Rattle.provisioning.specs.Layout.{sizesOf, sum}
-use Rattle.provisioning.specs.Message.{typeOf, messageOf}
-use Rattle.provisioning.specs.Promises.{Accepted}
+use Rattle.provisioning.specs.Message.{typeOf, messageOf, told as messageTold}
 use Rattle.provisioning.specs.declared.Message.{Message}
 use Rattle.provisioning.proofs.Laws.{by-reading, by-type}
-use Rattle.message_view.specs.Reading.{sizeOf, valueAt, fieldAt}
-use Rattle.message_view.specs.Promises.{wantedSize, readAll, readTo, fieldsOf, SameFields, ViewReadsFields, PastEndStays}
+use Rattle.message_view.specs.Reading.{sizeOf, valueAt, fieldAt, told}
+use Rattle.message_view.specs.Promises.{wantedSize, readAll, readTo, fieldsTold, SameFields, ViewReadsFields, PastEndStays}
 use Rattle.message_view.specs.declared.Step.{Step}
 use Rattle.message_view.specs.declared.FieldRead.{FieldRead}
 
@@ -45,13 +45,20 @@ read-values m place (n ∷ ns) h =
     let r = read-values m (place + n) ns (omega arith) in
     (rw e (rw (r .0)), ap (λ (s : Step). readTo m (s .next) (map wantedSize ns)) e ∙ r .1)
 
--- those of a type's layout are the fields of its message
-same-values : (m : List ℕ) (type : ℕ) → type < 10 → values m 1 (sizesOf type) ≡ fieldsOf (messageOf m type)
+-- the values of an answer
+abbrev valuesOf : Told → List ℕ
+valuesOf (refused n) = []
+valuesOf (answered word vs) = vs
+
+-- those of a type's layout are the values of its message
+same-values : (m : List ℕ) (type : ℕ) → type < 10 → map told (values m 1 (sizesOf type)) ≡ fieldsTold (sizesOf type) (valuesOf (messageTold (messageOf m type)))
 unfolding messageOf
-same-values m = by-type (λ (type : ℕ). values m 1 (sizesOf type) ≡ fieldsOf (messageOf m type)) refl refl refl refl refl refl refl refl refl refl
+same-values m = by-type (λ (type : ℕ). map told (values m 1 (sizesOf type)) ≡ fieldsTold (sizesOf type) (valuesOf (messageTold (messageOf m type))))
+    refl refl refl refl refl refl refl refl refl refl
 
 pub view-reads-fields : ViewReadsFields
-view-reads-fields m message e =
-    subst (λ (x : Message). Accepted x → SameFields m x) e
-    (by-reading m (λ (x : Message). Accepted x → SameFields m x) (λ r a. absurd a)
-    (λ h r a. let v = read-values m 1 (sizesOf (typeOf m)) (r .long) in record { fields = v .0 ∙ same-values m _ h; end = v .1 }))
+view-reads-fields m name vs =
+    by-reading m (λ (x : Message). messageTold x ≡ answered name vs → SameFields m vs)
+    (λ r e. let z : _≡_ {A = ℕ} 0 1 = cc in absurd (omega arith))
+    (λ h r e. let v = read-values m 1 (sizesOf (typeOf m)) (r .long) in
+    record { fields = ap (map told) (v .0) ∙ same-values m _ h ∙ ap (λ (t : Told). fieldsTold (sizesOf (typeOf m)) (valuesOf t)) e; end = v .1 })

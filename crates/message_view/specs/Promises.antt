@@ -1,21 +1,18 @@
 -- What is promised of the view beyond its contracts. The proofs are `proofs/Promises.antt`.
 use Prim.Native.Nat.{ℕ, _+_, _<_}
+use Prim.Native.String.{String}
 use mathlib.Core.Bool.{cond}
 use mathlib.Core.List.{List, [], _∷_, map}
 use mathlib.Core.Path.{_≡_}
-use lib.Dec.{eqb}
-use lib.ListN.{length}
-use Rattle.octets.specs.Told.{refused}
+use lib.Dec.{leb, eqb}
+use lib.ListN.{length, take, drop}
+use Rattle.octets.specs.Told.{Told, refused, answered}
 use Rattle.provisioning.specs.Layout.{sizesOf}
-use Rattle.provisioning.specs.Message.{typeOf, messageRead}
-use Rattle.provisioning.specs.Promises.{Accepted}
-use Rattle.provisioning.specs.declared.Message.{Message}
-use Rattle.provisioning.specs.declared.Message.the-variants as M
+use Rattle.provisioning.specs.Message.{typeOf, messageRead, told as messageTold}
 use Rattle.message_view.specs.Reading.{sizeOf, fieldAt, told}
 use Rattle.message_view.specs.declared.Wanted.{Wanted}
 use Rattle.message_view.specs.declared.Wanted.the-variants as W
 use Rattle.message_view.specs.declared.FieldRead.{FieldRead}
-use Rattle.message_view.specs.declared.FieldRead.the-variants as F
 
 -- a field of a size, as it is asked for
 abbrev pub wantedSize : ℕ → Wanted
@@ -35,37 +32,25 @@ abbrev pub readTo : List ℕ → ℕ → List Wanted → ℕ
 readTo m place [] = place
 readTo m place (w ∷ ws) = readTo m (fieldAt m place w .next) ws
 
--- the fields of a message, in the order of the layout
-abbrev pub fieldsOf : Message → List FieldRead
-fieldsOf (M.Invite attention) = F.Octet attention ∷ []
-fieldsOf (M.Capabilities c) =
-    F.Octet (c .elements)
-    ∷ F.Pair (c .algorithms)
-    ∷ F.Octet (c .«public_key_type»)
-    ∷ F.Octet (c .«static_oob_type»)
-    ∷ F.Octet (c .«output_oob_size»)
-    ∷ F.Pair (c .«output_oob_action»)
-    ∷ F.Octet (c .«input_oob_size»)
-    ∷ F.Pair (c .«input_oob_action»)
-    ∷ []
-fieldsOf (M.Start c) =
-    F.Octet (c .algorithm) ∷ F.Octet (c .«public_key») ∷ F.Octet (c .method) ∷ F.Octet (c .action) ∷ F.Octet (c .size) ∷ []
-fieldsOf (M.PublicKey x y) = F.Long x ∷ F.Long y ∷ []
-fieldsOf M.InputComplete = []
-fieldsOf (M.Confirmation c) = F.Long c ∷ []
-fieldsOf (M.Random r) = F.Long r ∷ []
-fieldsOf (M.Data d mic) = F.Long d ∷ F.Long mic ∷ []
-fieldsOf M.Complete = []
-fieldsOf (M.Failed code) = F.Octet code ∷ []
-fieldsOf (M.Refused r) = []
+-- the word and the number of values of a field of a size
+abbrev pub wordOf : ℕ → String
+wordOf n = cond (eqb n 1) "octet" (cond (eqb n 2) "pair" "field")
 
--- read field by field behind the type octet, a message gives the fields of the reader, and the last ends where the message does
-pub record SameFields (m : List ℕ) (message : Message) : Type 0 where
-  pub fields : readAll m 1 (wantedOf (typeOf m)) ≡ fieldsOf message
+abbrev pub valueCount : ℕ → ℕ
+valueCount n = cond (leb n 2) 1 2
+
+-- the values of a message as answers, one for each of its fields
+abbrev pub fieldsTold : List ℕ → List ℕ → List Told
+fieldsTold [] values = []
+fieldsTold (n ∷ sizes) values = answered (wordOf n) (take (valueCount n) values) ∷ fieldsTold sizes (drop (valueCount n) values)
+
+-- read field by field behind the type octet, a message gives the values of the reader, and the last ends where the message does
+pub record SameFields (m values : List ℕ) : Type 0 where
+  pub fields : map told (readAll m 1 (wantedOf (typeOf m))) ≡ fieldsTold (sizesOf (typeOf m)) values
   pub end : readTo m 1 (wantedOf (typeOf m)) ≡ length m
 
 abbrev pub ViewReadsFields : Type 0
-ViewReadsFields = (m : List ℕ) (message : Message) → messageRead m ≡ message → Accepted message → SameFields m message
+ViewReadsFields = (m : List ℕ) (name : String) (values : List ℕ) → messageTold (messageRead m) ≡ answered name values → SameFields m values
 
 -- a read past the end is refusal 44, and the view stays where it is
 abbrev pub PastEndStays : Type 0

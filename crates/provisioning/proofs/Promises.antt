@@ -1,18 +1,20 @@
--- The promises of `specs/Promises.antt`.
-use Prim.Native.Nat.{ℕ, _+_, _<_}
+-- The promises of `specs/Promises.antt` but the table of answers.
+use Prim.Native.Nat.{ℕ, _<_}
 use native.Mathlib.Omega.{arith}
 use mathlib.Core.Bool.{false}
-use mathlib.Core.List.{List, _∷_, append-nil}
-use mathlib.Core.Path.{_≡_, refl, _∙_, subst}
+use mathlib.Core.List.{List, [], _∷_, append-nil}
+use mathlib.Core.Path.{_≡_, refl, sym, ap, _∙_, subst}
+use lib.Dec.{eqb}
 use lib.ListN.{length}
-use borrow.Author.Tests.{le-leb, lt-leb, eq-eqb, ne-eqb}
+use borrow.Author.Tests.{eqb-true}
 use Rattle.octets.specs.Numbers.{Octets}
 use Rattle.octets.specs.Parts.{part}
-use Rattle.provisioning.specs.Layout.{sizesOf, parameterLength}
-use Rattle.provisioning.specs.Message.{typeOf, messageOf, isProhibited, messageRead}
-use Rattle.provisioning.specs.Promises.{Accepted, messageOctets, FieldsAreOctets, CapabilitiesAt, CapabilitiesInPlace, NothingProhibited, Refusals}
+use Rattle.octets.specs.Told.{answered}
+use Rattle.octets.proofs.Tables.{alike}
+use Rattle.provisioning.specs.Layout.{sizesOf}
+use Rattle.provisioning.specs.Message.{typeOf, messageOf, isProhibited, told}
+use Rattle.provisioning.specs.Promises.{Accepted, messageOctets, FieldsAreOctets, CapabilitiesAt, CapabilitiesInPlace, NothingProhibited}
 use Rattle.provisioning.specs.declared.Message.{Message}
-use Rattle.provisioning.specs.declared.Message.the-variants as M
 use Rattle.provisioning.proofs.Laws.{Read, by-reading, by-type, parts, layout-all, one-part, two-part}
 
 pub nothing-prohibited : NothingProhibited
@@ -57,48 +59,17 @@ fields-are-octets m o message e =
 
 -- ---- Capabilities, field by field
 
-abbrev Placed : List ℕ → Message → Type 0
-Placed m (M.Invite attention) = Unit {0}
-Placed m (M.Capabilities c) = CapabilitiesAt m c
-Placed m (M.Start c) = Unit {0}
-Placed m (M.PublicKey x y) = Unit {0}
-Placed m M.InputComplete = Unit {0}
-Placed m (M.Confirmation c) = Unit {0}
-Placed m (M.Random r) = Unit {0}
-Placed m (M.Data d mic) = Unit {0}
-Placed m M.Complete = Unit {0}
-Placed m (M.Failed code) = Unit {0}
-Placed m (M.Refused r) = Unit {0}
-
-placed : (m : List ℕ) (type : ℕ) → type < 10 → Read m type → Placed m (messageOf m type)
+-- of the ten types, 1 alone has its word
+one-alone : (m : List ℕ) (type : ℕ) → type < 10 → alike (answered "Capabilities" []) (told (messageOf m type)) ≡ eqb type 1
 unfolding messageOf
-placed m = by-type (λ (type : ℕ). Read m type → Placed m (messageOf m type))
-    (λ r. tt)
-    (λ r. record { type = r .first; elements = refl; algorithms = refl; publicKeyType = refl; staticOobType = refl; outputOobSize = refl; outputOobAction = refl; inputOobSize = refl; inputOobAction = refl; long = r .long })
-    (λ r. tt) (λ r. tt) (λ r. tt) (λ r. tt) (λ r. tt) (λ r. tt) (λ r. tt) (λ r. tt)
+one-alone m = by-type (λ (type : ℕ). alike (answered "Capabilities" []) (told (messageOf m type)) ≡ eqb type 1) refl refl refl refl refl refl refl refl refl refl
 
 pub capabilities-in-place : CapabilitiesInPlace
-capabilities-in-place m c e = subst (Placed m) e (by-reading m (Placed m) (λ r. tt) (placed m _))
-
--- ---- refusals in their order
-
-pub refusals : (m : List ℕ) → Refusals m
-unfolding messageRead
-refusals m = record {
-  empty = λ e. rw (eq-eqb (length m) 0 e);
-  padding = λ n p. rw (ne-eqb (length m) 0 (λ e. absurd (omega arith)), le-leb 0x40 (typeOf m) p);
-  unknownType = λ n low high. rw (ne-eqb (length m) 0 (λ e. absurd (omega arith)), lt-leb 0x40 (typeOf m) high, le-leb 10 (typeOf m) low);
-  wrongLength = λ n low other. rw (
-    ne-eqb (length m) 0 (λ e. absurd (omega arith)),
-    lt-leb 0x40 (typeOf m) (omega arith),
-    lt-leb 10 (typeOf m) low,
-    ne-eqb (length m) (1 + parameterLength (typeOf m)) other,
-  );
-  prohibited = λ low long p. rw (
-    ne-eqb (length m) 0 (λ e. absurd (omega arith)),
-    lt-leb 0x40 (typeOf m) (omega arith),
-    lt-leb 10 (typeOf m) low,
-    eq-eqb (length m) (1 + parameterLength (typeOf m)) long,
-    p,
-  );
-}
+unfolding messageOf
+capabilities-in-place m values =
+    by-reading m (λ (x : Message). told x ≡ answered "Capabilities" values → CapabilitiesAt m values)
+    (λ r e. let z : _≡_ {A = ℕ} 0 1 = cc in absurd (omega arith))
+    (λ h r e.
+    let one : typeOf m ≡ 1 = eqb-true _ 1 (sym (one-alone m _ h) ∙ ap (alike (answered "Capabilities" [])) e) in
+    let read : told (messageOf m 1) ≡ answered "Capabilities" values = rw one at e in
+    record { type = one; fields = cc; long = rw one at (r .long) })

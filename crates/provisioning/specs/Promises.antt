@@ -1,19 +1,22 @@
--- What is promised of the reader beyond its contract. The proofs are `proofs/Promises.antt`.
-use Prim.Native.Nat.{ℕ, _+_, _≤_, _<_}
-use mathlib.Core.Bool.{true, false}
+-- What is promised of the reader beyond its contract. The proofs are `proofs/Tables.antt`, of the table of answers, and `proofs/Promises.antt`.
+use Prim.Native.Nat.{ℕ}
+use mathlib.Core.Bool.{false}
 use mathlib.Core.List.{List, [], _∷_, _++_}
-use mathlib.Core.Logic.{_≢_}
 use mathlib.Core.Path.{_≡_}
-use lib.ListN.{length, getD}
-use Rattle.octets.specs.Numbers.{Octets, big16, octets16}
+use lib.ListN.{length}
+use Rattle.octets.specs.Numbers.{Octets, octets16}
 use Rattle.octets.specs.Parts.{part}
-use Rattle.octets.specs.Told.{refused}
-use Rattle.provisioning.specs.Layout.{parameterLength}
-use Rattle.provisioning.specs.Message.{messageOf, isProhibited, typeOf, messageRead, told}
+use Rattle.octets.specs.Told.{answered}
+use Rattle.octets.specs.Tables.{ByTable}
+use Rattle.provisioning.specs.Message.{isProhibited, messageRead, told}
+use Rattle.provisioning.specs.Tables.{octet, capabilitiesValues, messageRows}
 use Rattle.provisioning.specs.declared.Field.{Field}
-use Rattle.provisioning.specs.declared.Capabilities.{Capabilities}
 use Rattle.provisioning.specs.declared.Message.{Message}
 use Rattle.provisioning.specs.declared.Message.the-variants as M
+
+-- the reader's answer, by document 01's table
+abbrev pub MessageTable : Type 0
+MessageTable = (m : List ℕ) → ByTable (told (messageRead m)) (messageRows m)
 
 -- a message that is not refused
 abbrev pub Accepted : Message → Type 0
@@ -55,31 +58,15 @@ messageOctets m (M.Refused r) = []
 abbrev pub FieldsAreOctets : Type 0
 FieldsAreOctets = (m : List ℕ) → Octets m → (message : Message) → messageRead m ≡ message → Accepted message → messageOctets m message ≡ m
 
--- Capabilities, field by field: each is the octets at its own place, and the message ends behind the last
-pub record CapabilitiesAt (m : List ℕ) (c : Capabilities) : Type 0 where
-  pub type : getD m 0 0 ≡ 1
-  pub elements : c .elements ≡ getD m 1 0
-  pub algorithms : c .algorithms ≡ big16 m 2
-  pub publicKeyType : c .«public_key_type» ≡ getD m 4 0
-  pub staticOobType : c .«static_oob_type» ≡ getD m 5 0
-  pub outputOobSize : c .«output_oob_size» ≡ getD m 6 0
-  pub outputOobAction : c .«output_oob_action» ≡ big16 m 7
-  pub inputOobSize : c .«input_oob_size» ≡ getD m 9 0
-  pub inputOobAction : c .«input_oob_action» ≡ big16 m 10
+-- Capabilities, field by field: each value is the octets at its own place, and the message ends behind the last
+pub record CapabilitiesAt (m values : List ℕ) : Type 0 where
+  pub type : octet m 0 ≡ 1
+  pub fields : values ≡ capabilitiesValues m
   pub long : length m ≡ 12
 
 abbrev pub CapabilitiesInPlace : Type 0
-CapabilitiesInPlace = (m : List ℕ) (c : Capabilities) → messageRead m ≡ M.Capabilities c → CapabilitiesAt m c
+CapabilitiesInPlace = (m values : List ℕ) → told (messageRead m) ≡ answered "Capabilities" values → CapabilitiesAt m values
 
 -- nothing is accepted that document 01 prohibits
 abbrev pub NothingProhibited : Type 0
 NothingProhibited = (m : List ℕ) → isProhibited (messageRead m) ≡ false
-
--- 41 to 45, each where those before it are not due
-pub record Refusals (m : List ℕ) : Type 0 where
-  pub empty : length m ≡ 0 → told (messageRead m) ≡ refused 41
-  pub padding : 1 ≤ length m → 0x40 ≤ typeOf m → told (messageRead m) ≡ refused 42
-  pub unknownType : 1 ≤ length m → 10 ≤ typeOf m → typeOf m < 0x40 → told (messageRead m) ≡ refused 43
-  pub wrongLength : 1 ≤ length m → typeOf m < 10 → length m ≢ 1 + parameterLength (typeOf m) → told (messageRead m) ≡ refused 44
-  pub prohibited : typeOf m < 10 → length m ≡ 1 + parameterLength (typeOf m) → isProhibited (messageOf m (typeOf m)) ≡ true
-      → told (messageRead m) ≡ refused 45

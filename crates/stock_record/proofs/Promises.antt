@@ -14,7 +14,7 @@ use Rattle.hex.proofs.Laws.{octets-back}
 use Rattle.transactions.specs.declared.Socket.{Socket}
 use Rattle.pb_adv.proofs.Promises.{id-back}
 use Rattle.transactions.specs.declared.TransactionNumber.{TransactionNumber}
-use Rattle.provisioning.specs.Message.{messageRead}
+use Rattle.provisioning.specs.Message.{told}
 use Rattle.provisioning.specs.Promises.{messageOctets}
 use Rattle.provisioning.specs.declared.Capabilities.{Capabilities}
 use Rattle.provisioning.specs.declared.Message.the-variants as M
@@ -160,12 +160,12 @@ record Pairs (c : Capabilities) : Type 0 where
 
 pairs : (x : Imported) → Pairs (x .capabilities)
 pairs x =
-    let p = capabilities-in-place (x .octets) (x .capabilities) (x .accepted) in
+    let p = capabilities-in-place (x .octets) _ (ap told (x .accepted)) .fields in
     let o = x .areOctets in
     record {
-      algorithms = omega (arith, p .algorithms, o 2, o 3);
-      outputAction = omega (arith, p .outputOobAction, o 7, o 8);
-      inputAction = omega (arith, p .inputOobAction, o 10, o 11);
+      algorithms = omega (arith, at p 1, o 2, o 3);
+      outputAction = omega (arith, at p 5, o 7, o 8);
+      inputAction = omega (arith, at p 7, o 10, o 11);
     }
 
 above-record : (s : Socket) (id : ℕ) (t : TransactionNumber) (c : Capabilities) → AllAbove (recordFields s id t c)
