@@ -1,22 +1,25 @@
 -- The promises of `specs/Promises.antt`.
-use Prim.Native.Nat.{ℕ, suc, _-_, _≤_}
+use Prim.Native.Nat.{ℕ, suc, _+_, _-_, _≤_}
+use Prim.Native.String.{String}
 use native.Mathlib.Nat.{zero-add}
 use native.Mathlib.Omega.{arith}
 use mathlib.Core.Bool.{Bool, true, false, _||_}
 use mathlib.Core.List.{List, [], _∷_, map, map-map}
 use mathlib.Core.Path.{_≡_, refl, sym, ap, _∙_}
 use lib.Dec.{eqb}
-use lib.ListN.{length}
+use lib.ListN.{length, length-drop}
 use lib.Seq.{take-all}
 use borrow.Author.Tests.{leb-true, le-leb, lt-ltb}
 use Rattle.octets.specs.Cut.{sizeOf, piece, upTo, joined}
 use Rattle.octets.specs.Told.{refused, answered}
-use Rattle.octets.proofs.Cut.{length-map-up-to, getD-map-up-to, joined-cut}
+use Rattle.octets.proofs.Cut.{getD-map-up-to, joined-cut}
+use Rattle.octets.proofs.Tables.{other-told}
 use Rattle.octets.proofs.Tests.{cases}
 use Rattle.octets.proofs.Writing.{wrote}
-use Rattle.proxy.specs.Pieces.{isPiece, piecePlace, lastPiece, topBits, pieceOctets, messagePieces, piecesCounted}
-use Rattle.proxy.specs.Transfers.{empty, isGood, setConnected, dataOf, topOf, added, pieceRead, isRefused, bufferAfter, refusalNumber, told}
-use Rattle.proxy.specs.Promises.{disconnects, RefusalKeeps, ConnectionRefusalKeeps, KeepsGood, Back, CountIsLength, WritesPieces, CutsAsSaid}
+use Rattle.proxy.specs.Pieces.{isPiece, piecePlace, lastPiece, topBits, pieceOctets, messagePieces}
+use Rattle.proxy.specs.Transfers.{empty, isGood, setConnected, typeOf, dataOf, topOf, heldLength, added, pieceRead, isRefused, bufferAfter, refusalNumber, told}
+use Rattle.proxy.specs.Promises.{disconnects, RefusalKeeps, ConnectionRefusalKeeps, PiecesAdded, ConnectionStartsEmpty, KeepsGood, Back, WritesPieces, CutsAsSaid}
+use Rattle.proxy.specs.declared.HalfTransfer.the-variants.{Held}
 use Rattle.proxy.specs.declared.Transfer.{Transfer}
 use Rattle.proxy.specs.declared.PieceRead.{PieceRead}
 use Rattle.proxy.proofs.Reading.{Outcome, refuses, drops, adds, outcome, total}
@@ -62,6 +65,46 @@ unfolding setConnected
 connection-refusal-keeps c s n =
     cases (isGood s) (λ g. rw g (λ e. let z : _≡_ {A = ℕ} 0 1 = cc in absurd (omega arith))) (λ g. rw g (λ e. refl))
 
+-- ---- good pieces
+
+module _ (s : Transfer) (room : ℕ) (p : List ℕ) where
+  -- the transfer with the piece added
+  abbrev going : Transfer
+  going = record { connected = true; half = Held (typeOf p) (heldLength (s .half) + length (dataOf p)) }
+
+  data-count : length (dataOf p) ≡ length p - 1
+  data-count = length-drop 1 p
+
+  after-more : (r : PieceRead) → Outcome s room p r → told (r .answer) ≡ answered "more" [] → r .transfer ≡ going
+  unfolding added
+  after-more r (refuses q h) = other-told _ _ refl
+  after-more r (drops q h) = other-told _ _ refl
+  after-more r (adds f) = cases (eqb (topOf p) 0 || eqb (topOf p) 3) (λ g. rw g (other-told _ _ refl)) (λ g. rw (g, data-count) (λ _. refl))
+
+  after-whole : (r : PieceRead) → Outcome s room p r → (values : List ℕ) → told (r .answer) ≡ answered "whole" values → r .transfer ≡ empty true
+  unfolding added
+  after-whole r (refuses q h) values = other-told _ _ refl
+  after-whole r (drops q h) values = other-told _ _ refl
+  after-whole r (adds f) values = cases (eqb (topOf p) 0 || eqb (topOf p) 3) (λ g. rw g (λ _. refl)) (λ g. rw g (other-told _ _ refl))
+
+  not-refused : (r : PieceRead) → Outcome s room p r → (word : String) (values : List ℕ) → told (r .answer) ≡ answered word values → isRefused (r .answer) ≡ false
+  unfolding added
+  not-refused r (refuses q h) word values = other-told _ _ refl
+  not-refused r (drops q h) word values = other-told _ _ refl
+  not-refused r (adds f) word values = cases (eqb (topOf p) 0 || eqb (topOf p) 3) (λ g. rw g (λ _. refl)) (λ g. rw g (λ _. refl))
+
+pub pieces-added : PiecesAdded
+unfolding bufferAfter
+pieces-added s b p = record {
+  more = after-more s (length b) p _ (outcome s (length b) p);
+  whole = after-whole s (length b) p _ (outcome s (length b) p);
+  buffer = λ word values e. rw (not-refused s (length b) p _ (outcome s (length b) p) word values e);
+}
+
+pub connection-starts-empty : ConnectionStartsEmpty
+unfolding setConnected
+connection-starts-empty c s = cases (isGood s) (λ g. rw g (λ _. refl)) (λ g. rw g (other-told _ _ refl))
+
 -- ---- good states
 
 good-after : (s : Transfer) (room : ℕ) (p : List ℕ) (r : PieceRead) → Outcome s room p r → isGood s ≡ true → isGood (r .transfer) ≡ true
@@ -83,10 +126,6 @@ keeps-good = record {
 }
 
 -- ---- the list of pieces
-
-pub count-is-length : CountIsLength
-unfolding piecesCounted
-count-is-length z t m e = rw e (ap (λ (k : ℕ). answered "pieces" (k ∷ [])) (sym (length-map-up-to (pieceOctets z t m) (suc (lastPiece z (length m))))))
 
 pub writes-pieces : WritesPieces
 writes-pieces z t m k output n e =

@@ -1,3 +1,4 @@
 pub mod Pieces
 pub mod Transfers
+pub mod Tables
 pub mod Promises

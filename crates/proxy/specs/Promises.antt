@@ -1,16 +1,18 @@
 -- What is promised of the proxy transfer beyond each call's contract. The proofs are `proofs/Promises.antt`.
 use Prim.Native.Nat.{ℕ, _+_, _*_, _-_, _≤_, _<_}
+use Prim.Native.String.{String}
 use mathlib.Core.Bool.{Bool, true, false, _&&_}
 use mathlib.Core.List.{List, [], _∷_, _++_, map}
 use mathlib.Core.Path.{_≡_}
 use lib.Dec.{leb}
 use lib.ListN.{length, take, drop, getD, replicate}
+use Rattle.octets.specs.Parts.{write}
 use Rattle.octets.specs.Cut.{joined}
 use Rattle.octets.specs.Told.{Told, refused, answered}
-use Rattle.octets.specs.Writing.{written, outputAfter}
-use Rattle.octets.specs.declared.Written.the-variants.{Count}
-use Rattle.proxy.specs.Pieces.{isCut, isType, isPiece, lastPiece, pieceOctets, messagePieces, piecesCounted, countTold}
-use Rattle.proxy.specs.Transfers.{empty, isGood, setConnected, connectionTold, dataOf, pieceRead, bufferAfter, told}
+use Rattle.octets.specs.Writing.{told as writerTold, written, outputAfter}
+use Rattle.proxy.specs.Pieces.{isCut, isType, isPiece, lastPiece, pieceOctets, messagePieces}
+use Rattle.proxy.specs.Transfers.{empty, isGood, setConnected, connectionTold, typeOf, dataOf, heldLength, pieceRead, bufferAfter, told}
+use Rattle.proxy.specs.declared.HalfTransfer.the-variants.{Held}
 use Rattle.proxy.specs.declared.Transfer.{Transfer}
 
 -- ---- refusals, and good states
@@ -36,6 +38,22 @@ pub record KeepsGood : Type 0 where
   pub new : isGood (empty false) ≡ true
   pub connects : (c : Bool) (s : Transfer) → isGood s ≡ true → isGood (setConnected c s .transfer) ≡ true
   pub reads : (s : Transfer) (b p : List ℕ) → isGood s ≡ true → isGood (pieceRead s (length b) p .transfer) ≡ true
+
+-- ---- "A good piece is added after what is held, the rest unchanged, and answers 'more', or type and length when whole."
+
+pub record PieceAdded (s : Transfer) (b p : List ℕ) : Type 0 where
+  pub more : told (pieceRead s (length b) p .answer) ≡ answered "more" []
+      → pieceRead s (length b) p .transfer ≡ record { connected = true; half = Held (typeOf p) (heldLength (s .half) + length (dataOf p)) }
+  pub whole : (values : List ℕ) → told (pieceRead s (length b) p .answer) ≡ answered "whole" values → pieceRead s (length b) p .transfer ≡ empty true
+  pub buffer : (word : String) (values : List ℕ) → told (pieceRead s (length b) p .answer) ≡ answered word values
+      → bufferAfter s b p ≡ write b (heldLength (s .half)) (dataOf p)
+
+abbrev pub PiecesAdded : Type 0
+PiecesAdded = (s : Transfer) (b p : List ℕ) → PieceAdded s b p
+
+-- "Reconnecting starts empty."
+abbrev pub ConnectionStartsEmpty : Type 0
+ConnectionStartsEmpty = (c : Bool) (s : Transfer) → connectionTold (setConnected c s .answer) ≡ answered "done" [] → setConnected c s .transfer ≡ empty c
 
 -- ---- pieces read one after the other
 
@@ -66,15 +84,11 @@ Back =
 
 -- ---- the list of pieces
 
--- "The number of pieces reported is the length of that list."
-abbrev pub CountIsLength : Type 0
-CountIsLength =
-    (z t : ℕ) (m : List ℕ) → isCut z (length m) ≡ true → countTold (piecesCounted z (length m)) ≡ answered "pieces" (length (messagePieces z t m) ∷ [])
-
 -- what was written is the piece of that number in the list
 abbrev pub WritesPieces : Type 0
 WritesPieces =
-    (z t : ℕ) (m : List ℕ) (k : ℕ) (output : List ℕ) (n : ℕ) → written (isPiece z t m k) (pieceOctets z t m k) output ≡ Count n
+    (z t : ℕ) (m : List ℕ) (k : ℕ) (output : List ℕ) (n : ℕ)
+    → writerTold (written (isPiece z t m k) (pieceOctets z t m k) output) ≡ answered "written" (n ∷ [])
     → take n (outputAfter (isPiece z t m k) (pieceOctets z t m k) output) ≡ getD (messagePieces z t m) k []
 
 -- the cut in document 01's words
