@@ -1,5 +1,5 @@
 -- Lists with no repeat and no 0x0000 stay so.
-use Prim.Native.Nat.{ℕ, suc, _+_, _-_, _≤_}
+use Prim.Native.Nat.{ℕ, suc, _+_, _≤_}
 use native.Mathlib.Omega.{arith}
 use mathlib.Core.Bool.{Bool, true, false, _&&_, _||_, not, and-eq-true-iff}
 use mathlib.Core.List.{List, [], _∷_, _++_}
@@ -103,7 +103,7 @@ fine-all c l (a ∷ more) h = fine-all c (changed c l a) more (fine-changed c l 
 -- ---- the list after an address is added or removed
 
 -- 0x0000 is never on the list
-pub off-zero : (l : List Entry) → allAllowed l ≡ true → isOn l 0 ≡ false
+off-zero : (l : List Entry) → allAllowed l ≡ true → isOn l 0 ≡ false
 off-zero [] h = refl
 off-zero (e ∷ l) h = let b = first-allowed e l h in rw (not-true (eqb (e .address) 0) (b .0)) (off-zero l (b .1 .1))
 

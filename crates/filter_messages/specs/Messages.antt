@@ -1,7 +1,7 @@
 -- The messages of the proxy filter, in document 01's order.
 use Prim.Native.Nat.{ℕ, _-_, _%_}
 use mathlib.Core.Bool.{_&&_, cond}
-use mathlib.Core.List.{List, _∷_}
+use mathlib.Core.List.{List, [], _∷_}
 use lib.Dec.{leb, eqb}
 use lib.ListN.{length, getD}
 use Rattle.octets.specs.Numbers.{octets16}
@@ -59,6 +59,13 @@ refusalNumber R.UnknownOpcode = 32
 refusalNumber R.WrongLength = 33
 refusalNumber R.UnknownType = 34
 refusalNumber R.NotUnicast = 35
+
+-- what a message asks for: the type's number, to add, or to remove
+abbrev pub requestTold : Request → Told
+requestTold (Q.SetType kind) = answered "set type" (typeNumber kind ∷ [])
+requestTold (Q.Change Add) = answered "add" []
+requestTold (Q.Change Remove) = answered "remove" []
+requestTold (Q.Refused r) = refused (refusalNumber r)
 
 abbrev pub told : FilterAnswer → Told
 told (A.Status kind count) = answered "status" (statusOctets kind count)

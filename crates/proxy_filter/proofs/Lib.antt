@@ -1,4 +1,5 @@
 mod Places
 mod Holding
 mod Turns
+pub mod Tables
 pub mod Promises

@@ -1,15 +1,16 @@
 -- The promises of the filter.
-use Prim.Native.Nat.{ℕ, suc, _+_, _-_, _*_, _%_, _<_, _≤_}
+use Prim.Native.Nat.{ℕ, suc, _-_, _*_, _%_, _<_, _≤_}
 use native.Mathlib.Nat.{div-add-mod'}
 use native.Mathlib.Omega.{arith}
-use mathlib.Core.Bool.{true, false, not, and-eq-true-iff}
+use mathlib.Core.Bool.{true, false, and-eq-true-iff}
 use mathlib.Core.List.{List, [], _∷_, _++_}
-use mathlib.Core.Path.{_≡_, refl, sym, _∙_}
+use mathlib.Core.Path.{_≡_, refl, sym, ap, _∙_}
 use lib.Dec.{leb, eqb}
 use lib.ListN.{length, drop}
-use borrow.Author.Tests.{le-leb, lt-leb, ne-eqb, eqb-true, leb-true}
+use borrow.Author.Tests.{le-leb, lt-leb, eq-eqb, ne-eqb, leb-true}
+use Rattle.octets.specs.Told.{answered}
 use Rattle.octets.proofs.Tests.{cases}
-use Rattle.filter_messages.specs.Messages.{changeOf, requestOf, statusOctets}
+use Rattle.filter_messages.specs.Messages.{typeOf, changeOf, requestOf}
 use Rattle.filter_messages.specs.declared.FilterType.{FilterType}
 use Rattle.filter_messages.specs.declared.FilterType.the-variants.{AcceptList, RejectList}
 use Rattle.filter_messages.specs.declared.Change.{Change}
@@ -19,17 +20,20 @@ use Rattle.filter_messages.specs.declared.Request.the-variants as Q
 use Rattle.filter_messages.specs.declared.FilterRefusal.{FilterRefusal}
 use Rattle.filter_messages.specs.declared.FilterRefusal.the-variants as R
 use Rattle.filter_entries.specs.Entries.{entry, isOn, find}
-use Rattle.filter_entries.specs.Changes.{changed, changedAt}
+use Rattle.filter_entries.specs.Changes.{changed, changedAt, changedAll}
 use Rattle.filter_entries.specs.declared.Entry.{Entry}
 use Rattle.filter_entries.specs.declared.Place.{Place}
 use Rattle.filter_entries.specs.declared.Place.the-variants.{At, Nowhere}
 use Rattle.filter_entries.proofs.Lookup.{isThere, on-found}
-use Rattle.filter_entries.proofs.Lists.{Fine, fine-changed, fine-all, off-zero, on-after, off-after, others-left, around-left}
+use Rattle.filter_entries.proofs.Lists.{Fine, fine-changed, fine-all, on-after, off-after, others-left, around-left}
 use Rattle.proxy_filter.specs.Filters.{held, holding, isGood}
-use Rattle.proxy_filter.specs.Calls.{addresses, performed, controlled, changeFor, isUnicast, learned, passing, passAnswer, reporting, refusing, passTold}
-use Rattle.proxy_filter.specs.Promises.{Safe, AllSafe, octetsOf, AllMessages, afterAdding, Additions, afterRemoving, Removals, decision, AllPassing, AllLearning}
+use Rattle.proxy_filter.specs.Calls.{addresses, performed, controlled, changeFor, isUnicast, learned, passing, reporting, refusing, passTold}
+use Rattle.proxy_filter.specs.Tables.{badRow, listPasses}
+use Rattle.proxy_filter.specs.Promises.{Safe, AllSafe, octetsOf, afterMessage, AllInTurn, NoneChanges, AllLearnAs, TypesSet, afterAdding, Additions, afterRemoving, Removals, AllLearning}
 use Rattle.proxy_filter.specs.declared.Filter.{Filter}
-use Rattle.proxy_filter.proofs.Holding.{held-holding, kind-holding, count-holding, good-holding, fine-held, rebuilt}
+use Rattle.proxy_filter.specs.declared.FilterStep.{FilterStep}
+use Rattle.proxy_filter.proofs.Holding.{held-holding, kind-holding, good-holding, fine-held, rebuilt}
+use Rattle.proxy_filter.proofs.Tables.{pass-table}
 
 -- ---- every call
 
@@ -37,14 +41,12 @@ safe-refusing : (f : Filter) (r : FilterRefusal) → Safe f (refusing f r)
 safe-refusing f r = record {
   refusal-keeps = λ n e. refl;
   keeps-good = λ h. h;
-  status = λ w v e. let z : _≡_ {A = ℕ} 0 1 = cc in absurd (omega arith);
 }
 
 safe-reporting : (f : Filter) (kind : FilterType) (l : List Entry) → Fine l → Safe f (reporting (holding kind l))
 safe-reporting f kind l h = record {
   refusal-keeps = λ n e. let z : _≡_ {A = ℕ} 0 1 = cc in absurd (omega arith);
   keeps-good = λ g. good-holding kind l (h .few) (h .allowed);
-  status = λ w v e. let s : v ≡ statusOctets (holding kind l .kind) (holding kind l .count) = cc in s ∙ rw (held-holding kind l, count-holding kind l);
 }
 
 safe-performed : (f : Filter) (m : List ℕ) (q : Request) → isGood f ≡ true → Safe f (performed f m q)
@@ -93,18 +95,66 @@ asks-to-remove : (l : List ℕ) → length l ≤ 16 → requestOf (0x02 ∷ octe
 unfolding requestOf
 asks-to-remove l h = rw (not-empty 0x02 l) (changes Remove 0x02 l h)
 
-pub all-messages : AllMessages
-unfolding controlled
-all-messages f l g h = record {
-  adds = rw (g, asks-to-add l h, octets-addresses l);
-  removes = rw (g, asks-to-remove l h, octets-addresses l);
-}
+-- a message that asks for a change, with its addresses
+module _ (c : Change) (opcode : ℕ) (asks : (l : List ℕ) → length l ≤ 16 → requestOf (opcode ∷ octetsOf l) ≡ Q.Change c) where
+  answers : (f : Filter) (l : List ℕ) → isGood f ≡ true → length l ≤ 16 → controlled f (opcode ∷ octetsOf l) ≡ reporting (holding (f .kind) (changedAll c (held f) l))
+  unfolding controlled
+  answers f l g h = rw (g, asks l h, octets-addresses l)
+
+  does : (f : Filter) (l : List ℕ) → isGood f ≡ true → length l ≤ 16 → afterMessage opcode f l ≡ holding (f .kind) (changedAll c (held f) l)
+  does f l g h = ap (λ (r : FilterStep). r .filter) (answers f l g h)
+
+  in-turn : (f : Filter) (a : ℕ) (more : List ℕ) → isGood f ≡ true → length (a ∷ more) ≤ 16
+      → afterMessage opcode f (a ∷ more) ≡ afterMessage opcode (afterMessage opcode f (a ∷ [])) more
+  in-turn f a more g h =
+      let l = changed c (held f) a in
+      let fine = fine-changed c (held f) a (fine-held f g) in
+      does f (a ∷ more) g h
+      ∙ sym (rw (does f (a ∷ []) g (omega arith), does (holding (f .kind) l) more (good-holding (f .kind) l (fine .few) (fine .allowed)) (omega arith), held-holding (f .kind) l, kind-holding (f .kind) l))
+
+  none-changes : (f : Filter) → length (f .entries) ≡ 16 → isGood f ≡ true → afterMessage opcode f [] ≡ f
+  none-changes f long g = does f [] g (omega arith) ∙ sym (rebuilt f long g)
+
+pub all-in-turn : AllInTurn
+all-in-turn f a more g h = record { adds = in-turn Add 0x01 asks-to-add f a more g h; removes = in-turn Remove 0x02 asks-to-remove f a more g h }
+
+pub none-change : NoneChanges
+none-change f long g = (none-changes Add 0x01 asks-to-add f long g, none-changes Remove 0x02 asks-to-remove f long g)
+
+pub types-set : TypesSet
+unfolding controlled requestOf typeOf
+types-set f g = record { accept = ap (λ (r : FilterStep). r .filter) accepts; reject = ap (λ (r : FilterStep). r .filter) rejects }
+  where
+    accepts : controlled f (0x00 ∷ 0 ∷ []) ≡ reporting (holding AcceptList [])
+    accepts = rw g
+
+    rejects : controlled f (0x00 ∷ 1 ∷ []) ≡ reporting (holding RejectList [])
+    rejects = rw g
 
 one-added : (f : Filter) (a : ℕ) → isGood f ≡ true → afterAdding f a ≡ changed Add (held f) a
-one-added f a g = rw (all-messages f (a ∷ []) g (omega arith) .adds) (held-holding (f .kind) _)
+one-added f a g = rw (does Add 0x01 asks-to-add f (a ∷ []) g (omega arith)) (held-holding (f .kind) _)
 
 one-removed : (f : Filter) (a : ℕ) → isGood f ≡ true → afterRemoving f a ≡ changed Remove (held f) a
-one-removed f a g = rw (all-messages f (a ∷ []) g (omega arith) .removes) (held-holding (f .kind) _)
+one-removed f a g = rw (does Remove 0x02 asks-to-remove f (a ∷ []) g (omega arith)) (held-holding (f .kind) _)
+
+-- ---- a source learned
+
+-- what learning leaves
+learned-as : (f : Filter) (s : ℕ) → isGood f ≡ true → isUnicast s ≡ true → learned f s ≡ reporting (holding (f .kind) (changed (changeFor (f .kind)) (held f) s))
+unfolding learned
+learned-as f s g u = rw (g, u)
+
+pub all-learn-as : AllLearnAs
+all-learn-as f s g u = record {
+  accept = λ k. learns Add 0x01 asks-to-add (ap changeFor k);
+  reject = λ k. learns Remove 0x02 asks-to-remove (ap changeFor k);
+}
+  where
+    learns : (c : Change) (opcode : ℕ) (asks : (l : List ℕ) → length l ≤ 16 → requestOf (opcode ∷ octetsOf l) ≡ Q.Change c) → changeFor (f .kind) ≡ c
+        → learned f s .filter ≡ afterMessage opcode f (s ∷ [])
+    learns c opcode asks k =
+        ap (λ (r : FilterStep). r .filter) (learned-as f s g u)
+        ∙ ap (λ (c : Change). holding (f .kind) (changed c (held f) s)) k ∙ sym (does c opcode asks f (s ∷ []) g (omega arith))
 
 -- ---- one address
 
@@ -133,9 +183,14 @@ add-last : (l : List Entry) (a : ℕ) → eqb a 0 ≡ false → isOn l a ≡ fal
 unfolding changed
 add-last l a z n h = rw z (add-last-at (find l a) l a (sym (on-found l a 0) ∙ n) h)
 
+add-zero : (l : List Entry) (a : ℕ) → a ≡ 0 → changed Add l a ≡ l
+unfolding changed
+add-zero l a h = rw (eq-eqb a 0 h)
+
 pub additions : Additions
 additions f a g = record {
   last = λ z n h. one-added f a g ∙ add-last (held f) a z n h;
+  zero = λ h. one-added f a g ∙ add-zero (held f) a h;
   there = λ h. one-added f a g ∙ add-there (held f) a h;
   full = λ h. one-added f a g ∙ add-full (held f) a h;
 }
@@ -146,34 +201,14 @@ removals f a g = record {
   around = λ x e y s q. one-removed f a g ∙ around-left (held f) a (fine-held f g .allowed) x e y s q;
 }
 
--- ---- the pass decision
-
-accepts : (p : Place) → passTold (passAnswer AcceptList p) ≡ decision (isThere p)
-accepts (At p) = refl
-accepts Nowhere = refl
-
-rejects : (p : Place) → passTold (passAnswer RejectList p) ≡ decision (not (isThere p))
-rejects (At p) = refl
-rejects Nowhere = refl
-
-pub all-passing : AllPassing
-unfolding passing
-all-passing f d g = record {
-  accept = λ k.
-      cases (eqb d 0)
-      (λ z. rw (g, z, eqb-true d 0 z, off-zero (held f) (fine-held f g .allowed)))
-      (λ z. rw (g, z, k) (accepts (find (held f) d) ∙ rw (on-found (held f) d 0)));
-  reject = λ k.
-      cases (eqb d 0)
-      (λ z. rw (g, z))
-      (λ z. rw (g, z, k) (rejects (find (held f) d) ∙ rw (on-found (held f) d 0)));
-  zero = rw g;
-}
-
 -- ---- learning, then passing
 
 unicast-not-zero : (s : ℕ) → isUnicast s ≡ true → eqb s 0 ≡ false
 unicast-not-zero s u = ne-eqb s 0 (λ e. absurd (omega (arith, leb-true 1 s (and-eq-true-iff (leb 1 s) (leb s 0x7FFF) .0 u .0))))
+
+-- a destination that passes
+passes : (f : Filter) (d : ℕ) → isGood f ≡ true → eqb d 0 ≡ false → listPasses (f .kind) (isOn (held f) d) ≡ true → passTold (passing f d) ≡ answered "passes" []
+passes f d g z h = pass-table f d .exactly (badRow f ∷ []) _ _ refl .1 (rw (z, h), rw g)
 
 -- a source that is on the list after it was added
 on-added : (l : List Entry) (s : ℕ) → eqb s 0 ≡ false → length l < 16 → isOn (changed Add l s) s ≡ true
@@ -183,38 +218,31 @@ on-added l s z h =
     (λ n. rw (add-last l s z n h) (on-after l s))
 
 module _ (f : Filter) (s : ℕ) (g : isGood f ≡ true) (u : isUnicast s ≡ true) where
-  learns : learned f s ≡ reporting (holding (f .kind) (changed (changeFor (f .kind)) (held f) s))
-  unfolding learned
-  learns = rw (g, u)
-
   after-good : isGood (learned f s .filter) ≡ true
   after-good = all-safe .source f s .keeps-good g
 
   after-kind : learned f s .filter .kind ≡ f .kind
-  after-kind = rw learns (kind-holding (f .kind) _)
+  after-kind = rw (learned-as f s g u) (kind-holding (f .kind) _)
 
   after-held : held (learned f s .filter) ≡ changed (changeFor (f .kind)) (held f) s
-  after-held = rw learns (held-holding (f .kind) _)
+  after-held = rw (learned-as f s g u) (held-holding (f .kind) _)
 
-  passes-accept : f .kind ≡ AcceptList → isOn (changed Add (held f) s) s ≡ true → passTold (passing (learned f s .filter) s) ≡ decision true
-  passes-accept k h =
-      let on : isOn (held (learned f s .filter)) s ≡ true = rw (after-held, k) h in
-      all-passing (learned f s .filter) s after-good .accept (after-kind ∙ k) ∙ rw on
+  passes-accept : f .kind ≡ AcceptList → isOn (changed Add (held f) s) s ≡ true → passTold (passing (learned f s .filter) s) ≡ answered "passes" []
+  passes-accept k h = passes (learned f s .filter) s after-good (unicast-not-zero s u) (rw (after-kind, after-held, k) h)
 
-  passes-reject : f .kind ≡ RejectList → passTold (passing (learned f s .filter) s) ≡ decision true
+  passes-reject : f .kind ≡ RejectList → passTold (passing (learned f s .filter) s) ≡ answered "passes" []
   passes-reject k =
-      let off : isOn (held (learned f s .filter)) s ≡ false = rw (after-held, k) (off-after (held f) s (fine-held f g .allowed)) in
-      all-passing (learned f s .filter) s after-good .reject (after-kind ∙ k) ∙ rw (unicast-not-zero s u, off)
+      passes (learned f s .filter) s after-good (unicast-not-zero s u) (rw (after-kind, after-held, k, off-after (held f) s (fine-held f g .allowed)))
 
   skips-full : length (f .entries) ≡ 16 → f .kind ≡ AcceptList → 16 ≤ length (held f) → learned f s ≡ reporting f
   skips-full long k h =
       let c : changed (changeFor (f .kind)) (held f) s ≡ held f = rw k (add-full (held f) s h) in
-      learns ∙ rw (c, sym (rebuilt f long g))
+      learned-as f s g u ∙ rw (c, sym (rebuilt f long g))
 
 pub all-learning : AllLearning
 all-learning f s long g u = record {
   accept-room = λ k h. passes-accept f s g u k (on-added (held f) s (unicast-not-zero s u) h);
   accept-there = λ k h. passes-accept f s g u k (rw (add-there (held f) s h) h);
   reject = λ k. passes-reject f s g u k;
-  full = λ k h. skips-full f s g u long k h;
+  full = λ k h. ap (λ (r : FilterStep). r .filter) (skips-full f s g u long k h);
 }

@@ -1,3 +1,4 @@
 pub mod Filters
 pub mod Calls
+pub mod Tables
 pub mod Promises
