@@ -1,21 +1,22 @@
--- The promises of `specs/Promises.antt`.
+-- The promises of `specs/Promises.antt` but the tables of answers.
 use Prim.Native.Nat.{ℕ, _+_, _≤_}
 use native.Mathlib.Omega.{arith}
 use mathlib.Core.Bool.{Bool, true, false, _&&_, not}
-use mathlib.Core.List.{List}
-use mathlib.Core.Path.{_≡_, refl, sym, _∙_}
+use mathlib.Core.List.{List, [], _∷_}
+use mathlib.Core.Path.{_≡_, refl, sym, ap, _∙_}
 use lib.Dec.{leb, eqb}
 use lib.ListN.{length, getD}
-use borrow.Author.Tests.{leb-true, eq-eqb, ne-eqb, le-leb, lt-leb}
+use borrow.Author.Tests.{leb-true, eqb-true, eq-eqb, ne-eqb, le-leb, lt-leb}
+use Rattle.octets.specs.Told.{answered}
+use Rattle.octets.proofs.Tables.{other-told}
 use Rattle.octets.proofs.Tests.{cases}
 use Rattle.beacon.specs.Rules.{keyWrong, keyRule, outOfWindow, ivRule, recoveryStep, recoveryFrom}
-use Rattle.beacon.specs.Beacons.{refusing, isGood, unprovisioned, refreshFlag, updateFlag, indexOf, moved, secure, heard, atPhase, started, set}
-use Rattle.beacon.specs.Promises.{Safe, AllSafe, Accepts, Apart, KeyTable, IvTable}
+use Rattle.beacon.specs.Beacons.{refusing, isGood, unprovisioned, refreshFlag, updateFlag, indexOf, moved, secure, heard, atPhase, started, set, revokeValue, reportValue, told}
+use Rattle.beacon.specs.Promises.{Safe, AllSafe, TypeZeroKeeps, LocalMoves, Accepts, Apart, KeyTable, IvTable}
 use Rattle.beacon.specs.declared.Key.{Key}
 use Rattle.beacon.specs.declared.Key.the-variants.{Old, New}
 use Rattle.beacon.specs.declared.Subnet.{Subnet}
 use Rattle.beacon.specs.declared.IvState.{IvState}
-use Rattle.beacon.specs.declared.IvReport.{IvReport}
 use Rattle.beacon.specs.declared.SecurityState.{SecurityState}
 use Rattle.beacon.specs.declared.Hearing.{Hearing}
 use Rattle.beacon.specs.declared.Hash.{Hash}
@@ -115,10 +116,6 @@ outcome s host b =
 
 -- ---- every call
 
--- an answer that is no refusal
-never : {B : Type 0} (q : BeaconRefusal) (v : Bool) (p : IvReport) → A.Secure v p ≡ A.Refused q → B
-never q v p e = let z : _≡_ {A = ℕ} 0 1 = cc in absurd (omega arith)
-
 safe-refusing : (s : SecurityState) (q : BeaconRefusal) → Safe s (refusing s q)
 safe-refusing s q = record { refusal-keeps = λ r e. refl; keeps-good = λ h. h; index-stays-or-rises = omega arith }
 
@@ -156,20 +153,47 @@ all-safe = record {
       (λ g. rw g (safe-refusing s R.BadState));
 }
 
+pub type-zero-keeps : TypeZeroKeeps
+unfolding heard unprovisioned
+type-zero-keeps s host b zero =
+    rw (eq-eqb (getD b 0 0) 0 zero)
+    (cases (isGood s)
+    (λ e. rw e (cases (eqb (length b) 0) (λ e. rw e)
+    (λ e. rw e (cases (eqb (length b) 19) (λ e. rw e)
+    (λ e. rw e (cases (eqb (length b) 23) (λ e. rw e) (λ e. rw e)))))))
+    (λ e. rw e))
+
+pub local-moves : LocalMoves
+unfolding started set
+local-moves = record {
+  start = λ s values.
+      cases (isGood s)
+      (λ g. rw g (cases (eqb (s .phase) 0) (λ e. rw e (λ _. refl)) (λ e. rw e (other-told _ _ refl))))
+      (λ g. rw g (other-told _ _ refl));
+  setting = λ s target values.
+      cases (isGood s)
+      (λ g. rw g (cases (leb 1 (s .phase))
+      (λ e. rw e (cases (eqb target 2) (λ e. rw (e, ne-eqb target 3 (omega (arith, eqb-true target 2 e))) (λ _. refl))
+      (λ e. rw e (cases (eqb target 3) (λ e. rw e (λ _. refl)) (λ e. rw e (other-told _ _ refl))))))
+      (λ e. rw e (other-told _ _ refl))))
+      (λ g. rw g (other-told _ _ refl));
+}
+
 -- ---- an accepted beacon of type 1
 
 -- what it says of any result that is an outcome
-pub record Both (s : SecurityState) (host : Hearing) (b : List ℕ) (r : Heard) (revoke : Bool) (report : IvReport) : Type 0 where
+pub record Both (s : SecurityState) (host : Hearing) (b : List ℕ) (r : Heard) (revoke report : ℕ) : Type 0 where
   pub phase : r .state .phase ≡ keyRule (s .phase) (host .key) (refreshFlag b) .phase
-  pub revoked : revoke ≡ keyRule (s .phase) (host .key) (refreshFlag b) .revoke
+  pub revoked : revoke ≡ revokeValue (keyRule (s .phase) (host .key) (refreshFlag b) .revoke)
   pub iv : r .state .iv ≡ ivRule (s .iv) (indexOf b) (updateFlag b) .iv
-  pub reported : report ≡ ivRule (s .iv) (indexOf b) (updateFlag b) .report
+  pub reported : report ≡ reportValue (ivRule (s .iv) (indexOf b) (updateFlag b) .report)
   pub index : r .state .iv .index ≤ indexOf b
 
-accepted : (s : SecurityState) (host : Hearing) (b : List ℕ) (r : Heard) → Outcome s host b r → (v : Bool) (p : IvReport) → r .answer ≡ A.Secure v p → Both s host b r v p
+accepted : (s : SecurityState) (host : Hearing) (b : List ℕ) (r : Heard) → Outcome s host b r → (v p : ℕ) → told (r .answer) ≡ answered "secure" (v ∷ p ∷ [])
+    → Both s host b r v p
 unfolding moved
-accepted s host b r (refuses q) v p e = never q v p (sym e)
-accepted s host b r (tells u o h) v p e = let z : _≡_ {A = ℕ} 0 1 = cc in absurd (omega arith)
+accepted s host b r (refuses q) v p e = other-told _ _ refl e
+accepted s host b r (tells u o h) v p e = other-told _ _ refl e
 accepted s host b r (steps g w) v p e = record {
   phase = refl;
   revoked = cc;

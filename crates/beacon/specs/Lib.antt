@@ -1,3 +1,4 @@
 pub mod Rules
 pub mod Beacons
+pub mod Tables
 pub mod Promises

@@ -1,11 +1,16 @@
--- What is promised of beacons and states beyond each call's contract. The proofs are `proofs/Promises.antt`.
+-- What is promised of beacons and states beyond each call's contract. The proofs are `proofs/Tables.antt`, of the three tables of answers, and
+-- `proofs/Promises.antt`.
 use Prim.Native.Nat.{ℕ, _+_, _≤_}
-use mathlib.Core.Bool.{Bool, true, false}
-use mathlib.Core.List.{List}
+use mathlib.Core.Bool.{Bool, true, false, cond}
+use mathlib.Core.List.{List, [], _∷_}
 use mathlib.Core.Path.{_≡_}
-use Rattle.octets.specs.Told.{refused}
+use lib.Dec.{eqb}
+use lib.ListN.{getD}
+use Rattle.octets.specs.Told.{refused, answered}
+use Rattle.octets.specs.Tables.{ByTable}
 use Rattle.beacon.specs.Rules.{keyWrong, keyRule, ivRule}
-use Rattle.beacon.specs.Beacons.{isGood, refreshFlag, updateFlag, indexOf, heard, started, set, told}
+use Rattle.beacon.specs.Beacons.{isGood, refreshFlag, updateFlag, indexOf, heard, started, set, revokeValue, reportValue, told}
+use Rattle.beacon.specs.Tables.{heardRows, startRows, setRows}
 use Rattle.beacon.specs.declared.Key.{Key}
 use Rattle.beacon.specs.declared.Key.the-variants.{Old, New}
 use Rattle.beacon.specs.declared.IvState.{IvState}
@@ -15,8 +20,18 @@ use Rattle.beacon.specs.declared.IvStep.{IvStep}
 use Rattle.beacon.specs.declared.KeyStep.{KeyStep}
 use Rattle.beacon.specs.declared.SecurityState.{SecurityState}
 use Rattle.beacon.specs.declared.Hearing.{Hearing}
-use Rattle.beacon.specs.declared.BeaconAnswer.the-variants as A
 use Rattle.beacon.specs.declared.Heard.{Heard}
+
+-- ---- every call's answer, by document 01's table
+
+abbrev pub HeardTable : Type 0
+HeardTable = (s : SecurityState) (host : Hearing) (b : List ℕ) → ByTable (told (heard s host b .answer)) (heardRows s host b)
+
+abbrev pub StartTable : Type 0
+StartTable = (s : SecurityState) → ByTable (told (started s .answer)) (startRows s)
+
+abbrev pub SetTable : Type 0
+SetTable = (s : SecurityState) (target : ℕ) → ByTable (told (set s target .answer)) (setRows s target)
 
 -- ---- every call: a refusal changes no state, and a good state stays good
 
@@ -30,24 +45,37 @@ pub record AllSafe : Type 0 where
   pub start : (s : SecurityState) → Safe s (started s)
   pub setting : (s : SecurityState) (target : ℕ) → Safe s (set s target)
 
--- ---- an accepted beacon of type 1: both rules, each on its own state
+-- "type 0 changes no state"
+abbrev pub TypeZeroKeeps : Type 0
+TypeZeroKeeps = (s : SecurityState) (host : Hearing) (b : List ℕ) → getD b 0 0 ≡ 0 → heard s host b .state ≡ s
 
-pub record BothRules (s : SecurityState) (host : Hearing) (b : List ℕ) (revoke : Bool) (report : IvReport) : Type 0 where
+-- a local call that moves the phase leaves the IV state: a start leads to phase 1, a set to 2, or with 3 to phase 0
+abbrev pub atPhase : ℕ → SecurityState → SecurityState
+atPhase phase s = record { phase = phase; iv = s .iv }
+
+pub record LocalMoves : Type 0 where
+  pub start : (s : SecurityState) (values : List ℕ) → told (started s .answer) ≡ answered "moved" values → started s .state ≡ atPhase 1 s
+  pub setting : (s : SecurityState) (target : ℕ) (values : List ℕ) → told (set s target .answer) ≡ answered "moved" values
+      → set s target .state ≡ atPhase (cond (eqb target 3) 0 2) s
+
+-- ---- an accepted beacon of type 1: both rules, each on its own state; the two values are those of its answer
+
+pub record BothRules (s : SecurityState) (host : Hearing) (b : List ℕ) (revoke report : ℕ) : Type 0 where
   pub phase : heard s host b .state .phase ≡ keyRule (s .phase) (host .key) (refreshFlag b) .phase
-  pub revoked : revoke ≡ keyRule (s .phase) (host .key) (refreshFlag b) .revoke
+  pub revoked : revoke ≡ revokeValue (keyRule (s .phase) (host .key) (refreshFlag b) .revoke)
   pub iv : heard s host b .state .iv ≡ ivRule (s .iv) (indexOf b) (updateFlag b) .iv
-  pub reported : report ≡ ivRule (s .iv) (indexOf b) (updateFlag b) .report
+  pub reported : report ≡ reportValue (ivRule (s .iv) (indexOf b) (updateFlag b) .report)
   -- the index never passes the one received
   pub index : heard s host b .state .iv .index ≤ indexOf b
 
 abbrev pub Accepts : Type 0
 Accepts =
-    (s : SecurityState) (host : Hearing) (b : List ℕ) (revoke : Bool) (report : IvReport) → heard s host b .answer ≡ A.Secure revoke report
+    (s : SecurityState) (host : Hearing) (b : List ℕ) (revoke report : ℕ) → told (heard s host b .answer) ≡ answered "secure" (revoke ∷ report ∷ [])
     → BothRules s host b revoke report
 
 -- "the key rule and the IV rule don't read each other's state": of two accepted beacons, those with equal phase, key and key refresh flag leave one
 -- phase and revoke alike; those with equal IV state, index and IV flag leave one IV state and report alike
-pub record RulesApart (s : SecurityState) (host : Hearing) (b : List ℕ) (s′ : SecurityState) (host′ : Hearing) (b′ : List ℕ) (v v′ : Bool) (p p′ : IvReport) : Type 0 where
+pub record RulesApart (s : SecurityState) (host : Hearing) (b : List ℕ) (s′ : SecurityState) (host′ : Hearing) (b′ : List ℕ) (v v′ p p′ : ℕ) : Type 0 where
   pub key : s .phase ≡ s′ .phase → host .key ≡ host′ .key → refreshFlag b ≡ refreshFlag b′
       → (heard s host b .state .phase ≡ heard s′ host′ b′ .state .phase) × (v ≡ v′)
   pub iv : s .iv ≡ s′ .iv → indexOf b ≡ indexOf b′ → updateFlag b ≡ updateFlag b′
@@ -55,8 +83,9 @@ pub record RulesApart (s : SecurityState) (host : Hearing) (b : List ℕ) (s′ 
 
 abbrev pub Apart : Type 0
 Apart =
-    (s : SecurityState) (host : Hearing) (b : List ℕ) (s′ : SecurityState) (host′ : Hearing) (b′ : List ℕ) (v v′ : Bool) (p p′ : IvReport)
-    → heard s host b .answer ≡ A.Secure v p → heard s′ host′ b′ .answer ≡ A.Secure v′ p′ → RulesApart s host b s′ host′ b′ v v′ p p′
+    (s : SecurityState) (host : Hearing) (b : List ℕ) (s′ : SecurityState) (host′ : Hearing) (b′ : List ℕ) (v v′ p p′ : ℕ)
+    → told (heard s host b .answer) ≡ answered "secure" (v ∷ p ∷ []) → told (heard s′ host′ b′ .answer) ≡ answered "secure" (v′ ∷ p′ ∷ [])
+    → RulesApart s host b s′ host′ b′ v v′ p p′
 
 -- ---- the tables of the two rules
 
