@@ -7,10 +7,11 @@ use lib.ListN.{getD}
 use Rattle.octets.specs.Numbers.{big16}
 use Rattle.octets.specs.Told.{refused}
 use Rattle.hex.specs.Hex.{isHexadecimal, octetsOf as octetsIn}
-use Rattle.links.specs.Station.{Station}
+use Rattle.links.specs.Station.{Station, received}
 use Rattle.links.specs.Interleaving.{All}
-use Rattle.links.specs.Demand3.{Message, Call, Premises, Right, First, linkOf, octetsOf, frameOf, after}
+use Rattle.links.specs.Demand3.{Message, Call, Premises, Right, First, linkOf, after}
 use Rattle.links.specs.declared.Side.the-variants.{Provisioner}
+use Rattle.transactions.specs.declared.Socket.{Socket}
 use Rattle.provisioning.specs.Message.{messageRead}
 use Rattle.provisioning.specs.declared.Capabilities.{Capabilities}
 use Rattle.provisioning.specs.declared.Message.the-variants as M
@@ -21,7 +22,6 @@ use Rattle.import_lines.specs.Lines.{lineStep, lineArea}
 use Rattle.import_lines.specs.Steps.{importedOf, areaAfter, outputAfter}
 use Rattle.import_tray.specs.Awaited.{trayOf}
 use Rattle.import_tray.specs.declared.Tray.{Tray}
-use Rattle.import_frames.specs.Frames.{socketAt}
 
 -- the fields that the octets of a Capabilities message have at their places
 abbrev pub fieldsOf : List ℕ → Capabilities
@@ -40,13 +40,13 @@ fieldsOf m = record {
 -- before for this and other sockets: its socket, its link's Link ID, its number, and each field from its own octets
 abbrev pub DeliveryWrites : Type 0
 DeliveryWrites =
-    (σ : Station) (message : ℕ → Message) → Premises Provisioner σ message
-    → (cs : List Call) → All (Right Provisioner σ message) cs
-    → (pre : List Call) (c : Call) (post : List Call) → cs ≡ pre ++ (c ∷ post) → First Provisioner σ message pre c
-    → (capabilities : Capabilities) → messageRead (octetsOf Provisioner σ message (c .socket)) ≡ M.Capabilities capabilities
-    → (awaited : List Bool) (number : ℕ) (line : List ℕ) → isHexadecimal line ≡ true → octetsIn line ≡ frameOf Provisioner σ message c
-    → lineStep (trayOf (after Provisioner σ message pre .links) awaited) (after Provisioner σ message pre .area) number line .text
-    ≡ recordLine (socketAt (c .socket)) (linkOf Provisioner σ message (c .socket) .id) (message (c .socket) .number) (fieldsOf (octetsOf Provisioner σ message (c .socket)))
+    (σ : Station) (message : Socket → Message) → Premises σ message Provisioner
+    → (cs : List Call) → All (Right σ message) cs
+    → (pre : List Call) (c : Call) (post : List Call) → cs ≡ pre ++ (c ∷ post) → First σ message pre c
+    → (capabilities : Capabilities) → messageRead (message (c .socket) .octets) ≡ M.Capabilities capabilities
+    → (awaited : List Bool) (number : ℕ) (line : List ℕ) → isHexadecimal line ≡ true → octetsIn line ≡ c .frame
+    → lineStep (trayOf (after σ message (received Provisioner) pre .links) awaited) (after σ message (received Provisioner) pre .area) number line .text
+    ≡ recordLine (c .socket) (linkOf σ message (c .socket) .id) (message (c .socket) .number) (fieldsOf (message (c .socket) .octets))
 
 -- THE WHOLE WAY, from the frames of a tray to a stock record: what is delivered is written, and what is written loses nothing. So no field of a
 -- record can come from another octet than its own

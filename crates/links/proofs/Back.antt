@@ -1,77 +1,293 @@
--- Demand 2, back: the segments of a message's cut, in any order that begins with the Start and with any repeats, give the message back.
-use Prim.Native.Nat.{ℕ, _≤_, _<_}
-use mathlib.Core.Bool.{true, false, false≢true}
-use mathlib.Core.List.{List, [], _∷_, _++_, append-nil}
-use mathlib.Core.Path.{_≡_, refl, sym, ap, _∙_}
-use lib.ListN.{length}
+-- Demand 2, back: the frames of a message's cut, in any order from a Start on and with any repeats, give the message back, whatever comes for other
+-- links in between, and for this one that is neither a segment nor a Close.
+use Prim.Native.Nat.{ℕ, zero, suc, _≤_}
+use native.Mathlib.Omega.{arith}
+use mathlib.Core.Bool.{Bool, true, false, _&&_, false≢true}
+use mathlib.Core.List.{List, [], _∷_, _++_, append-nil, List·Memᴰ, List·Memᴰ·head, List·Memᴰ·tail, Memᴰ·append-right}
+use mathlib.Core.Logic.{_≢_, _⊎_, inl, inr}
+use mathlib.Core.Path.{_≡_, refl, sym, ap, _∙_, subst}
+use lib.Dec.{eqb}
+use lib.ListN.{length, getD, take}
 use lib.Seq.{append-snoc}
-use borrow.Author.Tests.{eq-eqb}
-use Rattle.octets.proofs.Tests.{cases}
+use borrow.Author.Tests.{eq-eqb, ne-eqb}
+use Rattle.octets.specs.Numbers.{Octets}
+use Rattle.octets.specs.Parts.{part}
+use Rattle.octets.proofs.Tests.{cases, both}
 use Rattle.transactions.specs.Segments.{segN}
-use Rattle.links.specs.Station.{Station}
-use Rattle.links.specs.Interleaving.{All}
-use Rattle.links.specs.Demand3.{Message, Call, segmentsFor, sinceStart, octetsOf, Premises, Right, AllCome, First}
-use Rattle.links.specs.Demand2.{callsTo, GivenBack, Back}
+use Rattle.transactions.specs.declared.TransactionNumber.{TransactionNumber}
+use Rattle.transactions.specs.declared.Socket.{Socket}
+use Rattle.pb_adv.specs.Frame.{linkId, parsed}
+use Rattle.pb_adv.specs.declared.Parsed.{Parsed}
+use Rattle.pb_adv.specs.declared.Parsed.the-variants as P
+use Rattle.pb_adv_writing.specs.Writing.{segmentFrame, SegmentAsked}
+use Rattle.pb_adv_writing.proofs.Promises.{parsed-frame}
+use Rattle.links.specs.Links.{sends, told}
+use Rattle.links.specs.Good.{good}
+use Rattle.links.specs.Segments.{OneLink}
+use Rattle.links.specs.Station.{Station, socketPlace, noLink, getLink, acknowledgementStep, ackStep, frameStep, received, localOpen}
+use Rattle.links.specs.Interleaving.{keepIf, All}
+use Rattle.links.specs.Operations.{Operation, receiving, opening, sending, closing, operate, afterAll}
+use Rattle.links.specs.Promises.{Sized, addressed, LocalCall}
+use Rattle.links.specs.Demand3.{Message}
+use Rattle.links.specs.Demand2.{isOther, Prepared, MayCome, CutComes, Back}
 use Rattle.links.specs.declared.Side.{Side}
-use Rattle.links.proofs.Come.{complete, complete-nil, each-complete, complete-each}
-use Rattle.links.proofs.Demand3.{demand3}
+use Rattle.links.specs.declared.Side.the-variants.{Provisioner, Device}
+use Rattle.links.specs.declared.LinkState.{LinkState}
+use Rattle.links.specs.declared.LinkState.the-variants as S
+use Rattle.links.specs.declared.Link.{Link}
+use Rattle.links.specs.declared.Found.the-variants.{At}
+use Rattle.links.specs.declared.Answer.{Answer}
+use Rattle.links.specs.declared.Answer.the-variants as A
+use Rattle.links.proofs.Come.{sinceStart, push, complete, complete-nil, each-complete, since-start-snoc}
+use Rattle.links.proofs.Deliver.{Inv, fresh, inv-same, answerTo, step-inv, inv-stands}
+use Rattle.links.proofs.Lens.{part-size}
+use Rattle.links.proofs.Right.{OpenAt, goes, same, stays}
+use Rattle.links.proofs.Frames.{of-cut, in-cut, indexAt, index-at, found-id, frame-id, whose}
+use Rattle.links.proofs.Sockets.{place-below}
+use Rattle.links.proofs.Demand3.{delivery-in}
+use Rattle.links.proofs.Local.{open-count, send-count, close-count, send-after}
+use Rattle.links.proofs.Promises.{stepped, received-at, receiving-keeps-count, receiving-keeps-size, receiving-keeps-good, local-calls}
 
--- the first segment by which all have come
-record FirstBy (n : ℕ) (l : List ℕ) : Type 0 where
-  before : List ℕ
-  segment : ℕ
-  rest : List ℕ
-  split : l ≡ before ++ (segment ∷ rest)
-  missing : complete n (sinceStart before) ≡ false
-  whole : complete n (sinceStart (before ++ (segment ∷ []))) ≡ true
+-- ---- what operations bring to the link of a Link ID: the numbers of the segments, in their order
 
-first-by : (n : ℕ) (a b : List ℕ) → complete n (sinceStart a) ≡ false → complete n (sinceStart (a ++ b)) ≡ true → FirstBy n (a ++ b)
-first-by n a [] nc c = absurd (false≢true (sym nc ∙ rw (append-nil a) at c))
-first-by n a (k ∷ b) nc c =
-    cases (complete n (sinceStart (a ++ (k ∷ []))))
-    (λ e. record { before = a; segment = k; rest = b; split = refl; missing = nc; whole = e })
-    (λ e. rw (append-snoc a k b) at (first-by n (a ++ (k ∷ [])) b e (rw (append-snoc a k b) c)))
+abbrev isSegment : Parsed → Bool
+isSegment (P.Segment s) = true
+isSegment (P.Acknowledgement id t) = false
+isSegment (P.Open id uuid) = false
+isSegment (P.Ack id) = false
+isSegment (P.Close id reason) = false
+isSegment (P.Refused r) = false
 
--- the calls to one socket bring just its segments
-segments-of : (s : ℕ) (ks : List ℕ) → segmentsFor s (callsTo s ks) ≡ ks
-segments-of s [] = refl
-segments-of s (k ∷ ks) = rw (eq-eqb s s refl) (ap (λ (r : List ℕ). k ∷ r) (segments-of s ks))
+-- octets that are a segment with the Link ID
+abbrev isOwn : ℕ → List ℕ → Bool
+isOwn id f = isSegment (parsed f) && eqb (linkId f) id
 
-calls-append : (s : ℕ) (a b : List ℕ) → callsTo s (a ++ b) ≡ callsTo s a ++ callsTo s b
-calls-append s [] b = refl
-calls-append s (k ∷ a) b = ap (λ (r : List Call). record { socket = s; segment = k } ∷ r) (calls-append s a b)
+abbrev brings : ℕ → List Operation → List ℕ
+brings id [] = []
+brings id (receiving f ∷ cs) = keepIf (isOwn id f) (indexAt f) (brings id cs)
+brings id (opening socket i ∷ cs) = brings id cs
+brings id (sending socket n ∷ cs) = brings id cs
+brings id (closing socket ∷ cs) = brings id cs
 
-module _ (side : Side) (σ : Station) (message : ℕ → Message) (P : Premises side σ message) (s : ℕ) (below : s < length (σ .links)) where
+brings-append : (id : ℕ) (a b : List Operation) → brings id (a ++ b) ≡ brings id a ++ brings id b
+brings-append id [] b = refl
+brings-append id (receiving f ∷ a) b =
+    both (λ t. keepIf t (indexAt f) (brings id (a ++ b)) ≡ keepIf t (indexAt f) (brings id a) ++ brings id b) (isOwn id f)
+    (λ _. ap (λ (l : List ℕ). indexAt f ∷ l) (brings-append id a b)) (λ _. brings-append id a b)
+brings-append id (opening socket i ∷ a) b = brings-append id a b
+brings-append id (sending socket n ∷ a) b = brings-append id a b
+brings-append id (closing socket ∷ a) b = brings-append id a b
+
+brings-more : (id : ℕ) (k : ℕ) (c : Operation) (cs : List Operation) → List·Memᴰ k (brings id cs) → List·Memᴰ k (brings id (c ∷ cs))
+brings-more id k (receiving f) cs h = both (λ t. List·Memᴰ k (keepIf t (indexAt f) (brings id cs))) (isOwn id f) (λ _. List·Memᴰ·tail h) (λ _. h)
+brings-more id k (opening socket i) cs h = h
+brings-more id k (sending socket n) cs h = h
+brings-more id k (closing socket) cs h = h
+
+-- all at or after one Start are among those since the first
+since-has : (k : ℕ) (a b : List ℕ) → List·Memᴰ k (0 ∷ b) → List·Memᴰ k (sinceStart (a ++ (0 ∷ b)))
+since-has k [] b h = h
+since-has k (zero ∷ a) b h = List·Memᴰ·tail (Memᴰ·append-right a h)
+since-has k (suc j ∷ a) b h = since-has k a b h
+
+-- ---- what leaves the receiving alone
+
+record SameRecord (l m : Link) : Type 0 where
+  state : m .state ≡ l .state
+  id : m .id ≡ l .id
+  last : m .last ≡ l .last
+  half : m .half ≡ l .half
+
+same-record : (l : Link) → SameRecord l l
+same-record l = record { state = refl; id = refl; last = refl; half = refl }
+
+record-same : {l m : Link} → m ≡ l → SameRecord l m
+record-same {l} {m} e = rw e (same-record l)
+
+record SameHalf (x y : OneLink) : Type 0 where
+  state : y .link .state ≡ x .link .state
+  id : y .link .id ≡ x .link .id
+  last : y .link .last ≡ x .link .last
+  half : y .link .half ≡ x .link .half
+  part : y .part ≡ x .part
+
+same-half : (x : OneLink) → SameHalf x x
+same-half x = record { state = refl; id = refl; last = refl; half = refl; part = refl }
+
+and-false : (b : Bool) → (b && false) ≡ false
+and-false true = refl
+and-false false = refl
+
+-- on an open link, a frame that is neither a segment nor a Close leaves it
+module _ (side : Side) (x : OneLink) (f : List ℕ) where
+  ack-same : (side : Side) → SameHalf x (ackStep side x .1)
+  ack-same Provisioner = same-half x
+  ack-same Device = same-half x
+
+  other-same : (p : Parsed) → isOther p ≡ true → (isSegment p ≡ false) × SameHalf x (frameStep side x S.Open f p .1)
+  unfolding frameStep acknowledgementStep
+  other-same (P.Segment s) e = absurd (false≢true e)
+  other-same (P.Acknowledgement id t) e = (
+    refl,
+    cases (sends side t)
+        (λ q. rw q (cases (x .link .outstanding && eqb (x .link .next .0) (t .0))
+        (λ v. rw v (record { state = refl; id = refl; last = refl; half = refl; part = refl })) (λ v. rw v (same-half x))))
+        (λ q. rw q (same-half x)),
+  )
+  other-same (P.Open id uuid) e = (refl, same-half x)
+  other-same (P.Ack id) e = (refl, ack-same side)
+  other-same (P.Close id reason) e = absurd (false≢true e)
+  other-same (P.Refused r) e = (refl, same-half x)
+
+module _ (side : Side) (σ : Station) (socket : Socket) (m : Message) (P : Prepared side σ socket m) where
+  -- its place
+  abbrev s : ℕ
+  s = socketPlace socket
+
+  abbrev id : ℕ
+  id = getLink s σ .link .id
+
+  abbrev octets : List ℕ
+  octets = m .octets
+
   abbrev last : ℕ
-  last = segN (length (octetsOf side σ message s))
+  last = segN (length (m .octets))
 
-  right : (ks : List ℕ) → All (λ k. k ≤ last) ks → All (Right side σ message) (callsTo s ks)
-  right [] h = tt
-  right (k ∷ ks) h = (record { socket = below; segment = h .0 }, right ks (h .1))
+  abbrev t : TransactionNumber
+  t = m .number
 
-  given : (ks : List ℕ) → All (λ k. k ≤ last) ks → FirstBy last ks → GivenBack side σ message s (callsTo s ks)
-  given ks h w =
-      let call : Call = record { socket = s; segment = w .segment } in
-      let before = callsTo s (w .before) in
-      let rest = callsTo s (w .rest) in
-      let split : callsTo s ks ≡ before ++ (call ∷ rest) = ap (callsTo s) (w .split) ∙ calls-append s (w .before) (w .segment ∷ w .rest) in
-      let c = demand3 side σ message P (callsTo s ks) (right ks h) in
-      let here : segmentsFor s (before ++ (call ∷ [])) ≡ w .before ++ (w .segment ∷ []) =
-      ap (segmentsFor s) (sym (calls-append s (w .before) (w .segment ∷ []))) ∙ segments-of s (w .before ++ (w .segment ∷ [])) in
-      let all : AllCome side σ message s (before ++ (call ∷ [])) = rw here (complete-each last _ (w .whole)) in
-      let first : First side σ message before call =
-      (all, λ e. false≢true (sym (w .missing) ∙ each-complete last (sinceStart (w .before)) (rw (segments-of s (w .before)) at e))) in
-      record {
-        before = before;
-        call = call;
-        rest = rest;
-        split = split;
-        delivered = c .due before call rest split first;
-        stands = rw split (c .stand before call rest [] (rw (append-nil rest) split) first);
-      }
+  asked : (k : ℕ) → k ≤ last → SegmentAsked octets k
+  asked k b = record { some-octets = P .ready .some-octets; few-octets = P .ready .few-octets; index = b }
+
+  brings-frame : (k : ℕ) → k ≤ last → (cs : List Operation) → brings id (receiving (segmentFrame id t octets k) ∷ cs) ≡ k ∷ brings id cs
+  brings-frame k b cs = rw (ap isSegment (parsed-frame id t octets k (asked k b)), eq-eqb (linkId (segmentFrame id t octets k)) id (frame-id id t octets k), index-at id t octets k)
+
+  brings-each : (k : ℕ) → k ≤ last → (cs : List Operation) → List·Memᴰ (receiving (segmentFrame id t octets k)) cs → List·Memᴰ k (brings id cs)
+  brings-each k b (c ∷ cs) (List·Memᴰ·head e) = subst (λ (o : Operation). List·Memᴰ k (brings id (o ∷ cs))) e (rw (brings-frame k b cs) (List·Memᴰ·head refl))
+  brings-each k b (c ∷ cs) (List·Memᴰ·tail h) = brings-more id k c cs (brings-each k b cs h)
+
+  all-come : (cs : List Operation) → CutComes side σ socket m cs → complete last (sinceStart (brings id cs)) ≡ true
+  all-come cs h =
+      rw (h .split, brings-append id (h .before) (receiving (segmentFrame id t octets 0) ∷ h .since), brings-frame 0 (omega arith) (h .since))
+      (each-complete last _ (λ k b. since-has k (brings id (h .before)) (brings id (h .since))
+      (rw (brings-frame 0 (omega arith) (h .since)) at (brings-each k b (receiving (segmentFrame id t octets 0) ∷ h .since) (h .cut _ (in-cut id t octets (suc last) k (omega arith)))))))
+
+  -- ---- the link all along, when the segments l have come since the first Start
+  record Going (l : List ℕ) (τ : Station) : Type 0 where
+    at : OpenAt side τ s id
+    inv : Inv octets t l (getLink s τ)
+
+  -- an operation brings a segment, or leaves the link alone
+  data Turn (l : List ℕ) (τ : Station) (c : Operation) : Type 0 where
+    own : (f : List ℕ) → c ≡ receiving f → (k : ℕ) → ((cs : List Operation) → brings id (c ∷ cs) ≡ k ∷ brings id cs) → received side τ f .0 ≡ answerTo octets t l k
+        → Going (push l k) (operate side τ c .1) → Turn l τ c
+    other : ((cs : List Operation) → brings id (c ∷ cs) ≡ brings id cs) → Going l (operate side τ c .1) → Turn l τ c
+
+  module _ (l : List ℕ) (τ : Station) (g : Going l τ) where
+    alone : (τ′ : Station) → Sized τ′ → length (τ′ .links) ≡ length (τ .links) → good side (τ′ .links) ≡ true → SameHalf (getLink s τ) (getLink s τ′) → Going l τ′
+    alone τ′ size n notBad e = record {
+      at = record { sized = size; notBad = notBad; below = rw n (g .at .below); isOpen = e .state ∙ g .at .isOpen; hasId = e .id ∙ g .at .hasId };
+      inv = inv-same octets t l (getLink s τ) (getLink s τ′) (e .last) (e .half) (e .part) (g .inv);
+    }
+
+    takes : (f : List ℕ) (k : ℕ) → k ≤ last → f ≡ segmentFrame id t octets k → Turn l τ (receiving f)
+    takes f k b e =
+        let w = step-inv octets t (P .ready .some-octets) l (getLink s τ) k b (g .inv) in
+        own f refl k (subst (λ (h : List ℕ). (cs : List Operation) → brings id (receiving h ∷ cs) ≡ k ∷ brings id cs) (sym e) (brings-frame k b))
+        (ap (λ (r : Answer × Station). r .0) (goes side τ s id (g .at) t octets k (asked k b) (P .ready .number) f e) ∙ w .0)
+        (record {
+          at = stays side τ s id (g .at) t octets k (asked k b) (P .ready .number) f e;
+          inv = rw (same side τ s id (g .at) t octets k (asked k b) (P .ready .number) f e) (w .1);
+        })
+
+    -- octets that are no segment of this link
+    passes : (f : List ℕ) → Octets f → isOwn id f ≡ false → ((at : addressed (τ .links) (parsed f) ≡ At s) → SameHalf (getLink s τ) (stepped side τ f s)) → Turn l τ (receiving f)
+    passes f o h k =
+        other (λ cs. rw h)
+        (alone _ (receiving-keeps-size side τ f o (g .at .sized)) (receiving-keeps-count side τ f) (receiving-keeps-good side τ f o (g .at .notBad))
+        (received-at side τ f o s (SameHalf (getLink s τ)) (same-half (getLink s τ)) (λ _ _ _ at. k at)))
+
+    other-link : (f : List ℕ) → Octets f → linkId f ≢ id → Turn l τ (receiving f)
+    other-link f o h =
+        passes f o (rw (ne-eqb (linkId f) id h) (and-false (isSegment (parsed f))))
+        (λ at. absurd (h (found-id τ s (linkId f) (whose (τ .links) f s at) ∙ g .at .hasId)))
+
+    others : (f : List ℕ) → Octets f → isOther (parsed f) ≡ true → Turn l τ (receiving f)
+    others f o h =
+        let w = other-same side (getLink s τ) f (parsed f) h in
+        passes f o (rw (w .0)) (λ at. subst (λ (state : LinkState). SameHalf (getLink s τ) (frameStep side (getLink s τ) state f (parsed f) .1)) (sym (g .at .isOpen)) (w .1))
+
+    local : (ls : List Link) → length ls ≡ length (τ .links) → good side ls ≡ true → SameRecord (getD (τ .links) s noLink) (getD ls s noLink)
+        → Going l (record { links = ls; area = τ .area })
+    unfolding getLink
+    local ls n h e = alone _ (rw n (g .at .sized)) n h (record { state = e .state; id = e .id; last = e .last; half = e .half; part = refl })
+
+    turn : (c : Operation) → MayCome side σ socket m c → Turn l τ c
+    turn (receiving f) (inl h) = let r = of-cut id t octets (suc last) f h in takes f (r .index) (omega (arith, r .below)) (r .is)
+    turn (receiving f) (inr h) = of (h .0)
+      where
+        of : (linkId f ≢ id) ⊎ (isOther (parsed f) ≡ true) → Turn l τ (receiving f)
+        of (inl e) = other-link f (h .1) e
+        of (inr e) = others f (h .1) e
+    turn (opening w i) h =
+        let u : LocalCall side w (λ ls. localOpen side ls w i) = rw (h .1) (local-calls .opening w i) in
+        other (λ cs. refl) (local _ (open-count side (τ .links) w i) (u .keeps-good (τ .links) (g .at .notBad)) (record-same (u .leaves-others (τ .links) s (h .0))))
+    turn (sending w n) h =
+        let u = local-calls .sending side w n in
+        other (λ cs. refl) (local _ (send-count side (τ .links) w n) (u .keeps-good (τ .links) (g .at .notBad))
+        (send-after SameRecord same-record side (τ .links) w s n (λ l. record { state = refl; id = refl; last = refl; half = refl })))
+    turn (closing w) h =
+        let u = local-calls .closing side w in
+        other (λ cs. refl) (local _ (close-count side (τ .links) w) (u .keeps-good (τ .links) (g .at .notBad)) (record-same (u .leaves-others (τ .links) s h)))
+
+  -- ---- to the end
+
+  goes-on : (a : List ℕ) (cs : List Operation) (τ : Station) → All (MayCome side σ socket m) cs → Going (sinceStart a) τ → Going (sinceStart (a ++ brings id cs)) (afterAll side τ cs)
+  goes-on a [] τ h g = rw (append-nil a) g
+  goes-on a (c ∷ cs) τ h g = of (turn (sinceStart a) τ g c (h .0)) (λ b. goes-on b cs (operate side τ c .1) (h .1))
+    where
+      of : Turn (sinceStart a) τ c → ((b : List ℕ) → Going (sinceStart b) (operate side τ c .1) → Going (sinceStart (b ++ brings id cs)) (afterAll side (operate side τ c .1) cs))
+          → Going (sinceStart (a ++ brings id (c ∷ cs))) (afterAll side (operate side τ c .1) cs)
+      of (own f e k b _ n) r = rw (b cs, ← (append-snoc a k (brings id cs))) (r (a ++ (k ∷ [])) (rw (since-start-snoc a k) n))
+      of (other b n) r = rw (b cs) (r a n)
+
+  -- the operation that delivers
+  record Delivers (τ : Station) (cs : List Operation) : Type 0 where
+    before : List Operation
+    frame : List ℕ
+    rest : List Operation
+    split : cs ≡ before ++ (receiving frame ∷ rest)
+    delivered : received side (afterAll side τ before) frame .0 ≡ A.Delivered (length octets) t
+
+  -- one operation before
+  earlier : (τ : Station) (c : Operation) (cs : List Operation) → Delivers (operate side τ c .1) cs → Delivers τ (c ∷ cs)
+  earlier τ c cs d = record { before = c ∷ d .before; frame = d .frame; rest = d .rest; split = ap (λ (l : List Operation). c ∷ l) (d .split); delivered = d .delivered }
+
+  delivers : (a : List ℕ) (cs : List Operation) (τ : Station) → All (MayCome side σ socket m) cs → Going (sinceStart a) τ
+      → complete last (sinceStart a) ≡ false → complete last (sinceStart (a ++ brings id cs)) ≡ true → Delivers τ cs
+  delivers a [] τ h g n w = absurd (false≢true (sym n ∙ rw (append-nil a) at w))
+  delivers a (c ∷ cs) τ h g n w = of (turn (sinceStart a) τ g c (h .0)) (λ b. delivers b cs (operate side τ c .1) (h .1))
+    where
+      of : Turn (sinceStart a) τ c → ((b : List ℕ) → Going (sinceStart b) (operate side τ c .1) → complete last (sinceStart b) ≡ false
+          → complete last (sinceStart (b ++ brings id cs)) ≡ true → Delivers (operate side τ c .1) cs) → Delivers τ (c ∷ cs)
+      of (own f e k b u v) r =
+          cases (complete last (sinceStart (a ++ (k ∷ []))))
+          (λ z. record { before = []; frame = f; rest = cs; split = ap (λ (o : Operation). o ∷ cs) e; delivered = u ∙ delivery-in octets t a k z n })
+          (λ z. earlier τ c cs (r (a ++ (k ∷ [])) (rw (since-start-snoc a k) v) z (rw (append-snoc a k (brings id cs), ← (b cs)) w)))
+      of (other b v) r = earlier τ c cs (r a v n (rw (← (b cs)) w))
+
+  starts : Going [] σ
+  starts = record {
+    at = record { sized = P .room; notBad = P .notBad; below = place-below socket (length (σ .links)) (P .socket); isOpen = P .ready .isOpen; hasId = refl };
+    inv = fresh refl (P .ready .awaited) (P .ready .nothing) (omega (arith, part-size (length (σ .links)) σ refl (P .room) s (place-below socket (length (σ .links)) (P .socket)), P .ready .few-octets));
+  }
+
+  stood : (cs : List Operation) → All (MayCome side σ socket m) cs → complete last (sinceStart (brings id cs)) ≡ true → take (length octets) (getLink s (afterAll side σ cs) .part) ≡ octets
+  stood cs h c = inv-stands octets t (P .ready .some-octets) (sinceStart (brings id cs)) (getLink s (afterAll side σ cs)) c (goes-on [] cs σ h starts .inv)
 
 -- DEMAND 2, BACK
-pub back : Back
-back side σ message P s below ks h each =
-    given side σ message P s below (0 ∷ ks) h
-    (first-by (segN (length (octetsOf side σ message s))) [] (0 ∷ ks) (complete-nil (segN (length (octetsOf side σ message s)))) (each-complete (segN (length (octetsOf side σ message s))) (0 ∷ ks) each))
+pub back : Back received
+back side σ s m P cs h comes =
+    let w = all-come side σ s m P cs comes in
+    let d = delivers side σ s m P [] cs σ h (starts side σ s m P) (complete-nil (segN (length (m .octets)))) w in
+    record { before = d .before; frame = d .frame; rest = d .rest; split = d .split; delivered = ap told (d .delivered); stands = stood side σ s m P cs h w }

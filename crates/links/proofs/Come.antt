@@ -7,9 +7,20 @@ use mathlib.Core.Logic.{_≢_}
 use mathlib.Core.Path.{_≡_, refl, sym, ap, _∙_}
 use lib.Dec.{eqb}
 use borrow.Author.Tests.{eqb-true, eqb-false, eq-eqb}
-use Rattle.octets.proofs.Tests.{cases, both, both-hold, holds-both}
+use Rattle.octets.proofs.Tests.{both, both-hold, holds-both}
 use Rattle.links.specs.Marks.{isMarked, allMarked}
-use Rattle.links.specs.Demand3.{sinceStart, Each}
+
+-- ---- segments by their numbers, in the order in which they come
+
+-- those at or after the first Start segment
+abbrev pub sinceStart : List ℕ → List ℕ
+sinceStart [] = []
+sinceStart (zero ∷ ks) = zero ∷ ks
+sinceStart (suc k ∷ ks) = sinceStart ks
+
+-- each of segments 0 to n is among them
+abbrev pub Each : ℕ → List ℕ → Type 0
+Each n l = (k : ℕ) → k ≤ n → List·Memᴰ k l
 
 -- segment j is among them
 abbrev pub has : ℕ → List ℕ → Bool
@@ -95,9 +106,6 @@ each-complete (suc n) l h = holds-both (mem-has (suc n) l (h (suc n) (omega arit
 
 pub complete-each : (n : ℕ) (l : List ℕ) → complete n l ≡ true → Each n l
 complete-each n l e k b = has-mem k l (has-of-complete n l e k b)
-
-pub not-each : (n : ℕ) (l : List ℕ) → (Each n l → ⊥) → complete n l ≡ false
-not-each n l h = cases (complete n l) (λ e. absurd (h (complete-each n l e))) (λ e. e)
 
 pub complete-later : (n : ℕ) (a b : List ℕ) → complete n (sinceStart a) ≡ true → complete n (sinceStart (a ++ b)) ≡ true
 complete-later n a [] h = rw (append-nil a) h

@@ -23,7 +23,6 @@ use Rattle.links.specs.Marks.{isMarked, withMark}
 use Rattle.links.specs.Links.{isLast, Awaits, withReceived}
 use Rattle.links.specs.Segments.{OneLink, entered, offered, segmentStep}
 use Rattle.links.specs.Interleaving.{All, stateAfter}
-use Rattle.links.specs.Demand3.{sinceStart}
 use Rattle.links.specs.declared.LastDelivered.{LastDelivered}
 use Rattle.links.specs.declared.LastDelivered.the-variants as L
 use Rattle.links.specs.declared.HalfMessage.{HalfMessage}
@@ -33,7 +32,7 @@ use Rattle.links.specs.declared.Refusal.the-variants as R
 use Rattle.links.specs.declared.Answer.{Answer}
 use Rattle.links.specs.declared.Answer.the-variants as A
 use Rattle.links.proofs.Marks.{marked-same, marked-other, none-marked}
-use Rattle.links.proofs.Come.{has, complete, push, since-start-snoc, has-snoc, complete-nil, complete-mono, has-of-complete, all-complete, complete-cong, has-again}
+use Rattle.links.proofs.Come.{sinceStart, has, complete, push, since-start-snoc, has-snoc, complete-nil, complete-mono, has-of-complete, all-complete, complete-cong, has-again}
 
 -- ---- where segments stand: the laws of the cut, at 20 and 23
 
@@ -77,6 +76,12 @@ module _ (m : List ℕ) (t : TransactionNumber) where
     going : (q : List ℕ) → l ≡ 0 ∷ q → complete (segN (length m)) l ≡ false → Awaits (x .link .last) t
         → (marks : ℕ) → x .link .half ≡ H.Message (halfOf marks) → Held l marks (x .part) → Inv l x
     done : complete (segN (length m)) l ≡ true → x .link .last ≡ L.Number t → x .link .half ≡ H.Nothing → take (length m) (x .part) ≡ m → Inv l x
+
+  -- it hangs on the last delivered number, what is half-received and the part alone
+  pub inv-same : (l : List ℕ) (x y : OneLink) → y .link .last ≡ x .link .last → y .link .half ≡ x .link .half → y .part ≡ x .part → Inv l x → Inv l y
+  inv-same l x y a b c (fresh e w h room) = fresh e (rw a w) (b ∙ h) (rw c room)
+  inv-same l x y a b c (going q e n w marks h held) = going q e n (rw a w) marks (b ∙ h) (rw c held)
+  inv-same l x y a b c (done n w h t) = done n (a ∙ w) (b ∙ h) (rw c t)
 
   -- the answer to segment k after l
   abbrev pub answerTo : List ℕ → ℕ → Answer
@@ -164,6 +169,12 @@ module _ (m : List ℕ) (t : TransactionNumber) where
     runs a (k ∷ b) x r i =
         rw (← (append-snoc a k b)) (runs (a ++ (k ∷ [])) b (one x k .1) (r .1) (rw (since-start-snoc a k) (step-inv (sinceStart a) x k (r .0) i .1)))
 
+    -- once all have come, the message stands
+    pub inv-stands : (l : List ℕ) (x : OneLink) → complete (segN (length m)) l ≡ true → Inv l x → take (length m) (x .part) ≡ m
+    inv-stands l x c (fresh e _ _ _) = absurd (false≢true (rw (e, complete-nil (segN (length m))) at c))
+    inv-stands l x c (going _ _ f _ _ _ _) = absurd (false≢true (sym f ∙ c))
+    inv-stands l x c (done _ _ _ w) = w
+
     module _ (x : OneLink) (awaits : Awaits (x .link .last) t) (nothing : x .link .half ≡ H.Nothing) (room : length m ≤ length (x .part)) where
       -- ONE LINK: every answer, for any segments of the message in any order and with any repeats
       pub one-answer : (pre : List ℕ) → All (λ k. k ≤ segN (length m)) pre → (k : ℕ) → k ≤ segN (length m)
@@ -173,9 +184,4 @@ module _ (m : List ℕ) (t : TransactionNumber) where
       -- and what stands at the start of the part once all have come
       pub one-stands : (ks : List ℕ) → All (λ k. k ≤ segN (length m)) ks → complete (segN (length m)) (sinceStart ks) ≡ true
           → take (length m) (stateAfter one x ks .part) ≡ m
-      one-stands ks r c = end (runs [] ks x r (fresh refl awaits nothing room))
-        where
-          end : Inv (sinceStart ks) (stateAfter one x ks) → take (length m) (stateAfter one x ks .part) ≡ m
-          end (fresh e _ _ _) = absurd (false≢true (rw (e, complete-nil (segN (length m))) at c))
-          end (going _ _ f _ _ _ _) = absurd (false≢true (sym f ∙ c))
-          end (done _ _ _ w) = w
+      one-stands ks r c = inv-stands (sinceStart ks) (stateAfter one x ks) c (runs [] ks x r (fresh refl awaits nothing room))

@@ -1,202 +1,265 @@
 -- Demand 3: any number of open links, one message each, any mixture of right segments.
-use Prim.Native.Nat.{ℕ, _*_, _≤_, _<_}
+use Prim.Native.Nat.{ℕ, _+_, _*_, _-_, _≤_, _<_}
 use native.Mathlib.Omega.{arith}
 use mathlib.Core.Bool.{Bool, true, false, cond, false≢true}
-use mathlib.Core.List.{List, [], _∷_, _++_, append-assoc}
-use mathlib.Core.Logic.{_≢_}
+use mathlib.Core.List.{List, [], _∷_, _++_, map, append-assoc, map-map, map-append, List·Memᴰ, List·Memᴰ·not-nil, List·Memᴰ·cases-cons, Memᴰ·cast}
+use mathlib.Core.Logic.{_≢_, _⊎_, inl, inr}
 use mathlib.Core.Path.{_≡_, refl, sym, ap, _∙_, subst}
 use lib.Dec.{eqb}
-use lib.ListN.{length, take}
+use lib.ListN.{length, getD, take}
 use borrow.Author.Tests.{eqb-true, eqb-false, eq-eqb}
-use Rattle.octets.specs.Parts.{part}
+use Rattle.octets.specs.Told.{answered}
 use Rattle.octets.proofs.Tests.{cases, both}
+use Rattle.transactions.specs.Numbers.{isSocket}
 use Rattle.transactions.specs.Segments.{segN, segment}
 use Rattle.transactions.specs.declared.TransactionNumber.{TransactionNumber}
-use Rattle.pb_adv_writing.specs.Writing.{headerOf, SegmentAsked}
-use Rattle.pb_adv_writing.proofs.Promises.{parsed-frame, carried-frame, segment-fits}
-use Rattle.links.specs.Links.{Awaits, inUse, find}
-use Rattle.links.specs.Good.{goodAs, good}
+use Rattle.transactions.specs.declared.Socket.{Socket}
+use Rattle.pb_adv_writing.specs.Writing.{headerOf, segmentFrame, messageFrames, SegmentAsked}
+use Rattle.links.specs.Links.{Awaits, find, told}
+use Rattle.links.specs.Good.{good}
 use Rattle.links.specs.Segments.{OneLink, segmentStep}
-use Rattle.links.specs.Station.{Station, getLink, putLink, frameStep, received}
+use Rattle.links.specs.Station.{Station, socketPlace, noLink, getLink, putLink, ofSocket, received}
 use Rattle.links.specs.Interleaving.{keepIf, withKey, All, stateAfter}
-use Rattle.links.specs.Demand3.{Message, Call, segmentsFor, sinceStart, linkOf, octetsOf, Premises, Right, receive, after, answer, AllCome, First, socketOf, Claim, Demand3}
+use Rattle.links.specs.Demand3.{Message, Call, callPlace, framesFor, Ready, cutAt, linkOf, Premises, Right, AllCome, First, delivery, called, after, answer, Claim, Demand3}
 use Rattle.links.specs.declared.Side.{Side}
 use Rattle.links.specs.declared.LinkState.the-variants as S
 use Rattle.links.specs.declared.HalfReceived.the-variants as H
+use Rattle.links.specs.declared.Link.{Link}
 use Rattle.links.specs.declared.Found.the-variants.{At}
 use Rattle.links.specs.declared.Refusal.the-variants as R
 use Rattle.links.specs.declared.Answer.{Answer}
 use Rattle.links.specs.declared.Answer.the-variants as A
-use Rattle.links.proofs.Interleaving.{Parts, after-ok, part-after-calls, mixture}
-use Rattle.links.proofs.Come.{has, complete, push, since-start-snoc, has-again, complete-cong, each-complete, complete-each, not-each, complete-later, push-has}
+use Rattle.links.proofs.Interleaving.{with-key-append, Parts, after-ok, part-after-calls, mixture}
+use Rattle.links.proofs.Come.{sinceStart, Each, has, complete, push, since-start-snoc, has-again, complete-cong, each-complete, complete-each, complete-later, push-has}
 use Rattle.links.proofs.Deliver.{answerTo, one-answer, one-stands}
-use Rattle.links.proofs.Lens.{part-size, put-count, put-room, get-put, get-put-other, station-ext, find-at, good-out, good-get, good-put, sameUse}
-use Rattle.links.proofs.Keep.{Keeps, step-keeps, open-out, open-in}
+use Rattle.links.proofs.Lens.{part-size, station-ext}
+use Rattle.links.proofs.Frames.{of-cut, indexAt, index-at, come-out, come-in}
+use Rattle.links.proofs.Right.{OpenAt, found, goes, same, other, count, stays}
+use Rattle.links.proofs.Answers.{delivered-told}
+use Rattle.links.proofs.Sockets.{socketAt, place-below, socket-at, is-socket}
 
--- ---- a right call is a step of its own link
+-- ---- the premises and the calls, by places
 
-module _ (side : Side) (σ₀ : Station) (message : ℕ → Message) (P : Premises side σ₀ message) where
+module _ (side : Side) (σ₀ : Station) (message : Socket → Message) (P : Premises σ₀ message side) where
+  abbrev messageAt : ℕ → Message
+  messageAt s = message (socketAt s)
+
+  abbrev octetsAt : ℕ → List ℕ
+  octetsAt s = messageAt s .octets
+
+  abbrev idAt : ℕ → ℕ
+  idAt s = getD (σ₀ .links) s noLink .id
+
+  readyAt : (s : ℕ) → s < length (σ₀ .links) → Ready side (getD (σ₀ .links) s noLink) (messageAt s)
+  readyAt s b =
+      let q : s + 1 - 1 ≡ s = omega arith in
+      rw q at (P .ready (socketAt s) (is-socket s (length (σ₀ .links)) b))
+
+  record RightAt (c : Call) : Type 0 where
+    place : callPlace c < length (σ₀ .links)
+    index : indexAt (c .frame) ≤ segN (length (octetsAt (callPlace c)))
+    frame : c .frame ≡ segmentFrame (idAt (callPlace c)) (messageAt (callPlace c) .number) (octetsAt (callPlace c)) (indexAt (c .frame))
+
+  message-at : (s : Socket) → isSocket s (length (σ₀ .links)) ≡ true → messageAt (socketPlace s) ≡ message s
+  message-at s e = ap message (socket-at s (length (σ₀ .links)) e)
+
+  right-at : (c : Call) → Right σ₀ message c → RightAt c
+  right-at c r =
+      let s = callPlace c in
+      let own = subst (λ (m : Message). List·Memᴰ (c .frame) (messageFrames (idAt s) (m .number) (m .octets))) (sym (message-at (c .socket) (r .socket))) (r .segment) in
+      let w = of-cut (idAt s) (messageAt s .number) (octetsAt s) _ (c .frame) own in
+      let i : indexAt (c .frame) ≡ w .index = ap indexAt (w .is) ∙ index-at (idAt s) (messageAt s .number) (octetsAt s) (w .index) in
+      record {
+        place = place-below (c .socket) (length (σ₀ .links)) (r .socket);
+        index = omega (arith, i, w .below);
+        frame = w .is ∙ ap (segmentFrame (idAt s) (messageAt s .number) (octetsAt s)) (sym i);
+      }
+
+  all-at : (cs : List Call) → All (Right σ₀ message) cs → All RightAt cs
+  all-at [] r = tt
+  all-at (c ∷ cs) r = (right-at c (r .0), all-at cs (r .1))
+
+  -- ---- a right call is a step of its own link
+
   -- what holds of the station all along
   record Ok (σ : Station) : Type 0 where
     count : length (σ .links) ≡ length (σ₀ .links)
     room : length (σ .area) ≡ 1469 * length (σ₀ .links)
     notBad : good side (σ .links) ≡ true
     isOpen : (s : ℕ) → s < length (σ₀ .links) → getLink s σ .link .state ≡ S.Open
-    ids : (s : ℕ) → s < length (σ₀ .links) → getLink s σ .link .id ≡ linkOf side σ₀ message s .id
+    ids : (s : ℕ) → s < length (σ₀ .links) → getLink s σ .link .id ≡ idAt s
 
-  -- the call at its link
+  -- segment k of the message of place s, at its link
+  abbrev oneSegment : ℕ → OneLink → ℕ → Answer × OneLink
+  oneSegment s x k = segmentStep x (messageAt s .number) (headerOf (octetsAt s) k) (segment (octetsAt s) k)
+
+  -- a call at its link
   abbrev atLink : OneLink → Call → Answer × OneLink
-  atLink x c = segmentStep x (message (c .socket) .number) (headerOf (octetsOf side σ₀ message (c .socket)) (c .segment)) (segment (octetsOf side σ₀ message (c .socket)) (c .segment))
+  atLink x c = oneSegment (callPlace c) x (indexAt (c .frame))
 
-  asked : (c : Call) → Right side σ₀ message c → SegmentAsked (octetsOf side σ₀ message (c .socket)) (c .segment)
-  asked c r =
-      let y = P .ready (c .socket) (r .socket) in
-      record { some-octets = y .some-octets; few-octets = y .few-octets; index = r .segment }
+  abbrev step : Station → Call → Answer × Station
+  step = called σ₀ message (received side)
 
-  found : (σ : Station) → Ok σ → (s : ℕ) → s < length (σ₀ .links) → find (σ .links) (linkOf side σ₀ message s .id) ≡ At s
-  unfolding getLink
-  found σ o s b =
-      find-at (σ .links) (linkOf side σ₀ message s .id) s (good-out side (σ .links) (o .notBad) .1) (omega (arith, o .count))
-      (rw (o .isOpen s b, o .ids s b) (eq-eqb (linkOf side σ₀ message s .id) (linkOf side σ₀ message s .id) refl))
+  openAt : (σ : Station) → Ok σ → (s : ℕ) → s < length (σ₀ .links) → OpenAt side σ s (idAt s)
+  openAt σ o s b = record {
+    sized = omega (arith, o .count, o .room);
+    notBad = o .notBad;
+    below = omega (arith, o .count);
+    isOpen = o .isOpen s b;
+    hasId = o .ids s b;
+  }
 
-  goes : (σ : Station) (c : Call) → Ok σ → Right side σ₀ message c
-      → receive side σ₀ message σ c ≡ (atLink (getLink (c .socket) σ) c .0, putLink (c .socket) (atLink (getLink (c .socket) σ) c .1) σ)
-  unfolding received frameStep
-  goes σ c o r =
-      let y = P .ready (c .socket) (r .socket) in
-      let m = octetsOf side σ₀ message (c .socket) in
-      let id = linkOf side σ₀ message (c .socket) .id in
-      let t = message (c .socket) .number in
-      rw (
-        eq-eqb (length (σ .area)) (1469 * length (σ .links)) (omega (arith, o .count, o .room)),
-        o .notBad,
-        parsed-frame id t m (c .segment) (asked c r),
-        found σ o (c .socket) (r .socket),
-        o .isOpen (c .socket) (r .socket),
-        y .number,
-        carried-frame id t m (c .segment),
-      )
+  module _ (σ : Station) (c : Call) (o : Ok σ) (r : RightAt c) where
+    abbrev place : ℕ
+    place = callPlace c
 
-  openGood : (σ : Station) → Ok σ → (s : ℕ) → s < length (σ₀ .links) → goodAs side S.Open (getLink s σ .link) ≡ true
-  openGood σ o s b = rw (o .isOpen s b) at (good-get side σ s (o .notBad) (omega (arith, o .count)))
+    abbrev open-here : OpenAt side σ place (idAt place)
+    open-here = openAt σ o place (r .place)
 
-  module _ (σ : Station) (c : Call) (o : Ok σ) (r : Right side σ₀ message c) where
-    sized : length (getLink (c .socket) σ .part) ≡ 1469
-    sized = part-size (length (σ₀ .links)) σ (o .count) (o .room) (c .socket) (r .socket)
+    ready-here : Ready side (getD (σ₀ .links) place noLink) (messageAt place)
+    ready-here = readyAt place (r .place)
 
-    -- what its link keeps
-    keeps : Keeps side (getLink (c .socket) σ) (atLink (getLink (c .socket) σ) c .1)
-    keeps =
-        let y = P .ready (c .socket) (r .socket) in
-        let q = open-out side (getLink (c .socket) σ .link) (openGood σ o (c .socket) (r .socket)) in
-        step-keeps side (getLink (c .socket) σ) sized (q .1) (q .2) (message (c .socket) .number) (y .number) _ _ (segment-fits _ (c .segment) (asked c r))
+    asked : SegmentAsked (octetsAt place) (indexAt (c .frame))
+    asked = record { some-octets = ready-here .some-octets; few-octets = ready-here .few-octets; index = r .index }
 
-    next : Station
-    next = putLink (c .socket) (atLink (getLink (c .socket) σ) c .1) σ
+    goes-at : step σ c ≡ (atLink (getLink place σ) c .0, putLink place (atLink (getLink place σ) c .1) σ)
+    goes-at = goes side σ place _ open-here (messageAt place .number) (octetsAt place) (indexAt (c .frame)) asked (ready-here .number) (c .frame) (r .frame)
 
-    next-same : getLink (c .socket) next ≡ atLink (getLink (c .socket) σ) c .1
-    unfolding next
-    next-same = get-put (length (σ₀ .links)) σ (o .count) (o .room) (c .socket) (r .socket) _ (keeps .part ∙ sized)
+    next-same : getLink place (step σ c .1) ≡ atLink (getLink place σ) c .1
+    next-same = same side σ place _ open-here (messageAt place .number) (octetsAt place) (indexAt (c .frame)) asked (ready-here .number) (c .frame) (r .frame)
 
-    next-other : (j : ℕ) → c .socket ≢ j → getLink j next ≡ getLink j σ
-    unfolding next
-    next-other j h = get-put-other (length (σ₀ .links)) σ (o .count) (o .room) (c .socket) (r .socket) _ (keeps .part ∙ sized) j h
+    next-other : (j : ℕ) → place ≢ j → getLink j (step σ c .1) ≡ getLink j σ
+    next-other = other side σ place _ open-here (messageAt place .number) (octetsAt place) (indexAt (c .frame)) asked (ready-here .number) (c .frame) (r .frame)
 
-    next-good : good side (next .links) ≡ true
-    unfolding next
-    next-good =
-        let q = open-out side (getLink (c .socket) σ .link) (openGood σ o (c .socket) (r .socket)) in
-        good-put side σ (c .socket) _ (o .notBad)
-        (open-in side _ (keeps .state ∙ o .isOpen (c .socket) (r .socket)) (rw (keeps .next) (q .0)) (keeps .last) (keeps .half))
-        (sameUse (ap inUse (keeps .state)) (keeps .id))
+    next-ok : Ok (step σ c .1)
+    next-ok =
+        let z = stays side σ place _ open-here (messageAt place .number) (octetsAt place) (indexAt (c .frame)) asked (ready-here .number) (c .frame) (r .frame) in
+        let n = count side σ place _ open-here (messageAt place .number) (octetsAt place) (indexAt (c .frame)) asked (ready-here .number) (c .frame) (r .frame) ∙ o .count in
+        record {
+          count = n;
+          room = z .sized ∙ ap (λ (l : ℕ). 1469 * l) n;
+          notBad = z .notBad;
+          isOpen = λ j b. cases (eqb place j)
+              (λ e. rw (← (eqb-true place j e)) (z .isOpen)) (λ e. rw (next-other j (eqb-false place j e)) (o .isOpen j b));
+          ids = λ j b. cases (eqb place j)
+              (λ e. rw (← (eqb-true place j e)) (z .hasId)) (λ e. rw (next-other j (eqb-false place j e)) (o .ids j b));
+        }
 
-    stays : Ok next
-    unfolding next
-    stays = record {
-      count = put-count (length (σ₀ .links)) σ (o .count) (o .room) (c .socket) (r .socket) _ (keeps .part ∙ sized);
-      room = put-room (length (σ₀ .links)) σ (o .count) (o .room) (c .socket) (r .socket) _ (keeps .part ∙ sized);
-      notBad = next-good;
-      isOpen = λ j b. cases (eqb (c .socket) j)
-          (λ e. rw (← (eqb-true (c .socket) j e), next-same, keeps .state) (o .isOpen (c .socket) (r .socket)))
-          (λ e. rw (next-other j (eqb-false (c .socket) j e)) (o .isOpen j b));
-      ids = λ j b. cases (eqb (c .socket) j)
-          (λ e. rw (← (eqb-true (c .socket) j e), next-same, keeps .id) (o .ids (c .socket) (r .socket)))
-          (λ e. rw (next-other j (eqb-false (c .socket) j e)) (o .ids j b));
-    }
-
-  parts : Parts socketOf (receive side σ₀ message) (length (σ₀ .links)) getLink atLink Ok (Right side σ₀ message)
-  unfolding next
+  parts : Parts callPlace step (length (σ₀ .links)) getLink atLink Ok RightAt
   parts = record {
-    below = λ c r. r .socket;
-    ok = λ σ c o r. rw (goes σ c o r) (stays σ c o r);
-    answer = λ σ c o r. rw (goes σ c o r);
-    same = λ σ c o r. rw (goes σ c o r) (next-same σ c o r);
-    other = λ σ c j o r h. rw (goes σ c o r) (next-other σ c o r j h);
+    below = λ c r. r .place;
+    ok = next-ok;
+    answer = λ σ c o r. ap (λ (p : Answer × Station). p .0) (goes-at σ c o r);
+    same = next-same;
+    other = λ σ c j o r h. next-other σ c o r j h;
     ext = λ σ τ o p h. station-ext (length (σ₀ .links)) σ τ (o .count) (o .room) (p .count) (p .room) h;
   }
 
   starts : Ok σ₀
   unfolding getLink
-  starts = record { count = refl; room = P .room; notBad = P .notBad; isOpen = λ s b. P .ready s b .isOpen; ids = λ s b. refl }
+  starts = record { count = refl; room = P .room; notBad = P .notBad; isOpen = λ s b. readyAt s b .isOpen; ids = λ s b. refl }
+
+  ok-after : (cs : List Call) → All RightAt cs → Ok (stateAfter step σ₀ cs)
+  ok-after cs r = after-ok callPlace step (length (σ₀ .links)) getLink atLink Ok RightAt parts σ₀ cs starts r
 
   -- after any right calls, a link's Link ID still finds its socket
-  pub found-after : (cs : List Call) → All (Right side σ₀ message) cs → (s : ℕ) → s < length (σ₀ .links)
-      → find (after side σ₀ message cs .links) (linkOf side σ₀ message s .id) ≡ At s
-  found-after cs r s b =
-      found (after side σ₀ message cs) (after-ok socketOf (receive side σ₀ message) (length (σ₀ .links)) getLink atLink Ok (Right side σ₀ message) parts σ₀ cs starts r) s b
+  pub found-after : (cs : List Call) → All (Right σ₀ message) cs → (s : Socket) → isSocket s (length (σ₀ .links)) ≡ true
+      → find (after σ₀ message (received side) cs .links) (linkOf σ₀ message s .id) ≡ At (socketPlace s)
+  found-after cs r s b = found side _ (socketPlace s) _ (openAt _ (ok-after cs (all-at cs r)) (socketPlace s) (place-below s (length (σ₀ .links)) b))
 
   -- ---- a link's own calls, as the numbers of their segments
-  module _ (s : ℕ) where
-    abbrev oneSegment : OneLink → ℕ → Answer × OneLink
-    oneSegment x k = segmentStep x (message s .number) (headerOf (octetsOf side σ₀ message s) k) (segment (octetsOf side σ₀ message s) k)
 
-    own : (cs : List Call) (x : OneLink) → stateAfter atLink x (withKey socketOf s cs) ≡ stateAfter oneSegment x (segmentsFor s cs)
-    own [] x = refl
-    own (c ∷ cs) x =
-        both (λ t. stateAfter atLink x (keepIf t c (withKey socketOf s cs)) ≡ stateAfter oneSegment x (keepIf t (c .segment) (segmentsFor s cs))) (eqb (c .socket) s)
-        (λ e. rw (eqb-true (c .socket) s e) (own cs _)) (λ e. own cs x)
+  abbrev segmentsAt : ℕ → List Call → List ℕ
+  segmentsAt s cs = map (λ c. indexAt (c .frame)) (withKey callPlace s cs)
 
-    own-right : (cs : List Call) → All (Right side σ₀ message) cs → All (λ k. k ≤ segN (length (octetsOf side σ₀ message s))) (segmentsFor s cs)
-    own-right [] r = tt
-    own-right (c ∷ cs) r =
-        both (λ t. All (λ k. k ≤ segN (length (octetsOf side σ₀ message s))) (keepIf t (c .segment) (segmentsFor s cs))) (eqb (c .socket) s)
-        (λ e. (rw (eqb-true (c .socket) s e) at (r .0 .segment), own-right cs (r .1))) (λ e. own-right cs (r .1))
+  abbrev lastAt : ℕ → ℕ
+  lastAt s = segN (length (octetsAt s))
 
-  -- the link of socket s after any calls
-  link-after : (s : ℕ) (cs : List Call) → All (Right side σ₀ message) cs
-      → getLink s (after side σ₀ message cs) ≡ stateAfter (oneSegment s) (getLink s σ₀) (segmentsFor s cs)
-  link-after s cs r =
-      part-after-calls socketOf (receive side σ₀ message) (length (σ₀ .links)) getLink atLink Ok (Right side σ₀ message) parts s σ₀ cs starts r ∙ own s cs (getLink s σ₀)
+  own : (s : ℕ) (cs : List Call) (x : OneLink) → stateAfter atLink x (withKey callPlace s cs) ≡ stateAfter (oneSegment s) x (segmentsAt s cs)
+  own s [] x = refl
+  own s (c ∷ cs) x =
+      both (λ t. stateAfter atLink x (keepIf t c (withKey callPlace s cs)) ≡ stateAfter (oneSegment s) x (map (λ c. indexAt (c .frame)) (keepIf t c (withKey callPlace s cs)))) (eqb (callPlace c) s)
+      (λ e. ap (λ (i : ℕ). stateAfter atLink (oneSegment i x (indexAt (c .frame)) .1) (withKey callPlace s cs)) (eqb-true (callPlace c) s e)
+      ∙ own s cs (oneSegment s x (indexAt (c .frame)) .1))
+      (λ e. own s cs x)
+
+  own-right : (s : ℕ) (cs : List Call) → All RightAt cs → All (λ k. k ≤ lastAt s) (segmentsAt s cs)
+  own-right s [] r = tt
+  own-right s (c ∷ cs) r =
+      both (λ t. All (λ k. k ≤ lastAt s) (map (λ c. indexAt (c .frame)) (keepIf t c (withKey callPlace s cs)))) (eqb (callPlace c) s)
+      (λ e. (rw (eqb-true (callPlace c) s e) at (r .0 .index), own-right s cs (r .1))) (λ e. own-right s cs (r .1))
+
+  -- the link of place s after any calls
+  link-after : (s : ℕ) (cs : List Call) → All RightAt cs → getLink s (stateAfter step σ₀ cs) ≡ stateAfter (oneSegment s) (getLink s σ₀) (segmentsAt s cs)
+  link-after s cs r = part-after-calls callPlace step (length (σ₀ .links)) getLink atLink Ok RightAt parts s σ₀ cs starts r ∙ own s cs (getLink s σ₀)
 
   module _ (s : ℕ) (b : s < length (σ₀ .links)) where
-    awaits : Awaits (getLink s σ₀ .link .last) (message s .number)
+    awaits : Awaits (getLink s σ₀ .link .last) (messageAt s .number)
     unfolding getLink
-    awaits = P .ready s b .awaited
+    awaits = readyAt s b .awaited
 
     nothing : getLink s σ₀ .link .half ≡ H.Nothing
     unfolding getLink
-    nothing = P .ready s b .nothing
+    nothing = readyAt s b .nothing
 
-    roomy : length (octetsOf side σ₀ message s) ≤ length (getLink s σ₀ .part)
-    roomy = omega (arith, part-size (length (σ₀ .links)) σ₀ refl (P .room) s b, P .ready s b .few-octets)
+    roomy : length (octetsAt s) ≤ length (getLink s σ₀ .part)
+    roomy = omega (arith, part-size (length (σ₀ .links)) σ₀ refl (P .room) s b, readyAt s b .few-octets)
 
   -- EVERY ANSWER
-  pub every-answer : (pre : List Call) (c : Call) → All (Right side σ₀ message) pre → Right side σ₀ message c
-      → answer side σ₀ message pre c ≡ answerTo (octetsOf side σ₀ message (c .socket)) (message (c .socket) .number) (sinceStart (segmentsFor (c .socket) pre)) (c .segment)
+  every-answer : (pre : List Call) (c : Call) → All RightAt pre → RightAt c
+      → step (stateAfter step σ₀ pre) c .0 ≡ answerTo (octetsAt (callPlace c)) (messageAt (callPlace c) .number) (sinceStart (segmentsAt (callPlace c) pre)) (indexAt (c .frame))
   every-answer pre c rp r =
-      let s = c .socket in
-      parts .answer (after side σ₀ message pre) c (after-ok socketOf (receive side σ₀ message) (length (σ₀ .links)) getLink atLink Ok (Right side σ₀ message) parts σ₀ pre starts rp) r
+      let s = callPlace c in
+      parts .answer (stateAfter step σ₀ pre) c (ok-after pre rp) r
       ∙ rw (link-after s pre rp)
-      (one-answer (octetsOf side σ₀ message s) (message s .number) (P .ready s (r .socket) .some-octets) (getLink s σ₀) (awaits s (r .socket)) (nothing s (r .socket)) (roomy s (r .socket))
-      (segmentsFor s pre) (own-right s pre rp) (c .segment) (r .segment))
+      (one-answer (octetsAt s) (messageAt s .number) (readyAt s (r .place) .some-octets) (getLink s σ₀) (awaits s (r .place)) (nothing s (r .place)) (roomy s (r .place))
+      (segmentsAt s pre) (own-right s pre rp) (indexAt (c .frame)) (r .index))
 
   -- WHAT STANDS once each segment has come
-  pub octets-stand : (cs : List Call) → All (Right side σ₀ message) cs → (s : ℕ) → s < length (σ₀ .links)
-      → complete (segN (length (octetsOf side σ₀ message s))) (sinceStart (segmentsFor s cs)) ≡ true
-      → take (length (octetsOf side σ₀ message s)) (getLink s (after side σ₀ message cs) .part) ≡ octetsOf side σ₀ message s
+  octets-stand : (cs : List Call) → All RightAt cs → (s : ℕ) → s < length (σ₀ .links) → complete (lastAt s) (sinceStart (segmentsAt s cs)) ≡ true
+      → take (length (octetsAt s)) (getLink s (stateAfter step σ₀ cs) .part) ≡ octetsAt s
   octets-stand cs r s b e =
       rw (link-after s cs r)
-      (one-stands (octetsOf side σ₀ message s) (message s .number) (P .ready s b .some-octets) (getLink s σ₀) (awaits s b) (nothing s b) (roomy s b) (segmentsFor s cs) (own-right s cs r) e)
+      (one-stands (octetsAt s) (messageAt s .number) (readyAt s b .some-octets) (getLink s σ₀) (awaits s b) (nothing s b) (roomy s b) (segmentsAt s cs) (own-right s cs r) e)
+
+  -- ---- what has come, as frames and by number
+
+  among-right : (s : Socket) → isSocket s (length (σ₀ .links)) ≡ true → (cs : List Call) → All (Right σ₀ message) cs
+      → (f : List ℕ) → List·Memᴰ f (framesFor s cs) → List·Memᴰ f (cutAt (linkOf σ₀ message s) (message s))
+  among-right s b [] r f = λ h. absurd (List·Memᴰ·not-nil h)
+  among-right s b (c ∷ cs) r f =
+      both (λ t. List·Memᴰ f (map (λ c. c .frame) (keepIf t c (withKey callPlace (socketPlace s) cs))) → List·Memᴰ f (cutAt (linkOf σ₀ message s) (message s))) (eqb (callPlace c) (socketPlace s))
+      (λ e h. of e (among-right s b cs (r .1) f) (List·Memᴰ·cases-cons h)) (λ e h. among-right s b cs (r .1) f h)
+    where
+      same-socket : eqb (callPlace c) (socketPlace s) ≡ true → c .socket ≡ s
+      same-socket e = sym (socket-at (c .socket) _ (r .0 .socket)) ∙ ap socketAt (eqb-true (callPlace c) (socketPlace s) e) ∙ socket-at s _ b
+
+      of : eqb (callPlace c) (socketPlace s) ≡ true → (List·Memᴰ f (framesFor s cs) → List·Memᴰ f (cutAt (linkOf σ₀ message s) (message s)))
+          → (f ≡ c .frame) ⊎ List·Memᴰ f (framesFor s cs) → List·Memᴰ f (cutAt (linkOf σ₀ message s) (message s))
+      of e more (inl q) = Memᴰ·cast q (subst (λ (z : Socket). List·Memᴰ (c .frame) (cutAt (linkOf σ₀ message z) (message z))) (same-socket e) (r .0 .segment))
+      of e more (inr h) = more h
+
+  module _ (s : Socket) (b : isSocket s (length (σ₀ .links)) ≡ true) where
+    same-message : message s ≡ messageAt (socketPlace s)
+    same-message = sym (message-at s b)
+
+    index-frames : (cs : List Call) → map indexAt (framesFor s cs) ≡ segmentsAt (socketPlace s) cs
+    index-frames cs = map-map indexAt (λ c. c .frame) (withKey callPlace (socketPlace s) cs)
+
+    all-come : (cs : List Call) → AllCome σ₀ message s cs → complete (lastAt (socketPlace s)) (sinceStart (segmentsAt (socketPlace s) cs)) ≡ true
+    all-come cs h =
+        each-complete (lastAt (socketPlace s)) _ (subst (λ (l : List ℕ). Each (lastAt (socketPlace s)) (sinceStart l)) (index-frames cs)
+        (subst (λ (m : Message). Each (segN (length (m .octets))) (sinceStart (map indexAt (framesFor s cs)))) same-message
+        (come-out _ (message s .number) (message s .octets) (framesFor s cs) h)))
+
+    come-all : (cs : List Call) → All (Right σ₀ message) cs → complete (lastAt (socketPlace s)) (sinceStart (segmentsAt (socketPlace s) cs)) ≡ true → AllCome σ₀ message s cs
+    come-all cs r e =
+        come-in _ (message s .number) (message s .octets) (framesFor s cs) (among-right s b cs r)
+        (subst (λ (m : Message). Each (segN (length (m .octets))) (sinceStart (map indexAt (framesFor s cs)))) (message-at s b)
+        (subst (λ (l : List ℕ). Each (lastAt (socketPlace s)) (sinceStart l)) (sym (index-frames cs)) (complete-each (lastAt (socketPlace s)) _ e)))
+
+    not-come : (cs : List Call) → All (Right σ₀ message) cs → (AllCome σ₀ message s cs → ⊥) → complete (lastAt (socketPlace s)) (sinceStart (segmentsAt (socketPlace s) cs)) ≡ false
+    not-come cs r h = cases (complete (lastAt (socketPlace s)) (sinceStart (segmentsAt (socketPlace s) cs))) (λ e. absurd (h (come-all cs r e))) (λ e. e)
 
 -- ---- when the answer is a delivery
 
@@ -215,7 +278,7 @@ module _ (m : List ℕ) (t : TransactionNumber) (pre : List ℕ) (k : ℕ) where
       let f = four (complete (segN (length m)) (sinceStart pre)) (has k (sinceStart pre)) (complete (segN (length m)) (push (sinceStart pre) k)) (has k (push (sinceStart pre) k)) (length m) t n u e in
       (rw (since-start-snoc pre k) (f .0), f .1)
 
-  delivery-in : complete (segN (length m)) (sinceStart (pre ++ (k ∷ []))) ≡ true → complete (segN (length m)) (sinceStart pre) ≡ false
+  pub delivery-in : complete (segN (length m)) (sinceStart (pre ++ (k ∷ []))) ≡ true → complete (segN (length m)) (sinceStart pre) ≡ false
       → answerTo m t (sinceStart pre) k ≡ A.Delivered (length m) t
   delivery-in c nc =
       let c′ = rw (since-start-snoc pre k) at c in
@@ -226,15 +289,6 @@ module _ (m : List ℕ) (t : TransactionNumber) (pre : List ℕ) (k : ℕ) where
 
 -- ---- lists of calls
 
-segments-append : (s : ℕ) (a b : List Call) → segmentsFor s (a ++ b) ≡ segmentsFor s a ++ segmentsFor s b
-segments-append s [] b = refl
-segments-append s (c ∷ a) b =
-    both (λ t. keepIf t (c .segment) (segmentsFor s (a ++ b)) ≡ keepIf t (c .segment) (segmentsFor s a) ++ segmentsFor s b) (eqb (c .socket) s)
-    (λ _. ap (λ (r : List ℕ). c .segment ∷ r) (segments-append s a b)) (λ _. segments-append s a b)
-
-segments-snoc : (a : List Call) (c : Call) → segmentsFor (c .socket) (a ++ (c ∷ [])) ≡ segmentsFor (c .socket) a ++ (c .segment ∷ [])
-segments-snoc a c = segments-append (c .socket) a (c ∷ []) ∙ rw (eq-eqb (c .socket) (c .socket) refl)
-
 pub all-split : (P : Call → Type 0) (a : List Call) (c : Call) (b : List Call) → All P (a ++ (c ∷ b)) → All P a × P c × All P b
 all-split P [] c b h = (tt, h .0, h .1)
 all-split P (x ∷ a) c b h = let r = all-split P a c b (h .1) in ((h .0, r .0), r .1, r .2)
@@ -244,43 +298,94 @@ all-front P [] b h = tt
 all-front P (x ∷ a) b h = (h .0, all-front P a b (h .1))
 
 -- ---- the claim
-module _ (side : Side) (σ : Station) (message : ℕ → Message) (P : Premises side σ message) where
+
+module _ (side : Side) (σ : Station) (message : Socket → Message) (P : Premises σ message side) where
+  abbrev segments : ℕ → List Call → List ℕ
+  segments s cs = segmentsAt side σ message P s cs
+
   abbrev lastOf : ℕ → ℕ
-  lastOf s = segN (length (octetsOf side σ message s))
+  lastOf s = lastAt side σ message P s
+
+  segments-append : (s : ℕ) (a b : List Call) → segments s (a ++ b) ≡ segments s a ++ segments s b
+  segments-append s a b =
+      ap (map (λ (c : Call). indexAt (c .frame))) (with-key-append callPlace s a b) ∙ map-append (λ (c : Call). indexAt (c .frame)) (withKey callPlace s a) (withKey callPlace s b)
+
+  segments-snoc : (a : List Call) (c : Call) → segments (callPlace c) (a ++ (c ∷ [])) ≡ segments (callPlace c) a ++ (indexAt (c .frame) ∷ [])
+  segments-snoc a c = segments-append (callPlace c) a (c ∷ []) ∙ rw (eq-eqb (callPlace c) (callPlace c) refl)
 
   -- what has all come has all come later too
-  come-later : (s : ℕ) (pre : List Call) (c : Call) (more : List Call) → AllCome side σ message s (pre ++ (c ∷ [])) → AllCome side σ message s (pre ++ (c ∷ more))
-  come-later s pre c more h =
-      rw (← (append-assoc pre (c ∷ []) more), segments-append s (pre ++ (c ∷ [])) more)
-      (complete-each (lastOf s) _ (complete-later (lastOf s) (segmentsFor s (pre ++ (c ∷ []))) (segmentsFor s more) (each-complete (lastOf s) _ h)))
+  come-later : (s : Socket) → isSocket s (length (σ .links)) ≡ true → (pre : List Call) (c : Call) (more : List Call) → AllCome σ message s (pre ++ (c ∷ []))
+      → complete (lastOf (socketPlace s)) (sinceStart (segments (socketPlace s) (pre ++ (c ∷ more)))) ≡ true
+  come-later s b pre c more h =
+      rw (← (append-assoc pre (c ∷ []) more), segments-append (socketPlace s) (pre ++ (c ∷ [])) more)
+      (complete-later (lastOf (socketPlace s)) (segments (socketPlace s) (pre ++ (c ∷ []))) (segments (socketPlace s) more) (all-come side σ message P s b (pre ++ (c ∷ [])) h))
 
-  only-first : (pre : List Call) (c : Call) (post : List Call) → All (Right side σ message) (pre ++ (c ∷ post))
-      → (n : ℕ) (t : TransactionNumber) → answer side σ message pre c ≡ A.Delivered n t → First side σ message pre c
-  only-first pre c post r n t a =
-      let w = all-split _ pre c post r in
-      let d = delivery-out (octetsOf side σ message (c .socket)) (message (c .socket) .number) (segmentsFor (c .socket) pre) (c .segment) n t (sym (every-answer side σ message P pre c (w .0) (w .1)) ∙ a) in
-      (λ k b. rw (segments-snoc pre c) (complete-each (lastOf (c .socket)) _ (d .0) k b), λ h. false≢true (sym (d .1) ∙ each-complete (lastOf (c .socket)) _ h))
+  module _ (pre : List Call) (c : Call) (post : List Call) (r : All (Right σ message) (pre ++ (c ∷ post))) where
+    right-here : All (Right σ message) pre × Right σ message c × All (Right σ message) post
+    right-here = all-split _ pre c post r
 
-  the-claim : (cs : List Call) → All (Right side σ message) cs → Claim side σ message cs
-  the-claim cs r = record {
-    due = λ pre c post e f.
-        let w = all-split _ pre c post (rw e at r) in
-        every-answer side σ message P pre c (w .0) (w .1)
-        ∙ delivery-in (octetsOf side σ message (c .socket)) (message (c .socket) .number) (segmentsFor (c .socket) pre) (c .segment)
-        (rw (segments-snoc pre c) at (each-complete (lastOf (c .socket)) _ (f .0))) (not-each (lastOf (c .socket)) _ (f .1));
-    onlyThen = λ pre c post e n t a. only-first pre c post (rw e at r) n t a;
-    stand = λ pre c more post e f.
-        let w = all-split _ pre c (more ++ post) (rw e at r) in
-        octets-stand side σ message P (pre ++ (c ∷ more)) (all-front _ (pre ++ (c ∷ more)) post (rw (append-assoc pre (c ∷ more) post) (rw e at r))) (c .socket) (w .1 .socket)
-        (each-complete (lastOf (c .socket)) _ (come-later (c .socket) pre c more (f .0)));
-    once = λ pre c mid d post e q n t a n′ t′ a′.
-        let f = only-first pre c (mid ++ (d ∷ post)) (rw e at r) n t a in
-        let g = only-first (pre ++ (c ∷ mid)) d post (rw (append-assoc pre (c ∷ mid) (d ∷ post)) (rw e at r)) n′ t′ a′ in
-        g .1 (subst (λ (s : ℕ). AllCome side σ message s (pre ++ (c ∷ mid))) q (come-later (c .socket) pre c mid (f .0)));
-    sameEnd = mixture socketOf (receive side σ message) (length (σ .links)) getLink (atLink side σ message P) (Ok side σ message P) (Right side σ message) (parts side σ message P) σ cs (starts side σ message P) r .0;
-    sameAnswers = mixture socketOf (receive side σ message) (length (σ .links)) getLink (atLink side σ message P) (Ok side σ message P) (Right side σ message) (parts side σ message P) σ cs (starts side σ message P) r .1;
-  }
+    right-next : All (Right σ message) (pre ++ (c ∷ []))
+    right-next = all-front (Right σ message) (pre ++ (c ∷ [])) post (rw (append-assoc pre (c ∷ []) post) r)
+
+    is-one : isSocket (c .socket) (length (σ .links)) ≡ true
+    is-one = right-here .1 .socket
+
+    -- the message by its place
+    abbrev m : Message
+    m = messageAt side σ message P (callPlace c)
+
+    answers-here : called σ message (received side) (after σ message (received side) pre) c .0 ≡ answerTo (m .octets) (m .number) (sinceStart (segments (callPlace c) pre)) (indexAt (c .frame))
+    answers-here = every-answer side σ message P pre c (all-at side σ message P pre (right-here .0)) (right-at side σ message P c (right-here .1))
+
+    due-here : First σ message pre c → answer σ message (received side) pre c ≡ delivery σ message (c .socket)
+    due-here f =
+        ap told (answers-here
+        ∙ delivery-in (m .octets) (m .number) (segments (callPlace c) pre) (indexAt (c .frame))
+        (rw (segments-snoc pre c) at (all-come side σ message P (c .socket) is-one (pre ++ (c ∷ [])) (f .0)))
+        (not-come side σ message P (c .socket) is-one pre (right-here .0) (f .1)))
+        ∙ ap (λ (m : Message). answered "delivered" (length (m .octets) ∷ m .number .0 ∷ [])) (message-at side σ message P (c .socket) is-one)
+
+    only-here : (values : List ℕ) → answer σ message (received side) pre c ≡ answered "delivered" values → First σ message pre c
+    only-here values e =
+        let d = delivered-told _ values e in
+        let w = delivery-out (m .octets) (m .number) (segments (callPlace c) pre) (indexAt (c .frame)) (d .long) (d .number) (sym answers-here ∙ d .is) in (
+          come-all side σ message P (c .socket) is-one (pre ++ (c ∷ [])) right-next (rw (segments-snoc pre c) (w .0)),
+          λ h. false≢true (sym (w .1) ∙ all-come side σ message P (c .socket) is-one pre h),
+        )
+
+  stand-here : (pre : List Call) (c : Call) (more post : List Call) → All (Right σ message) (pre ++ (c ∷ (more ++ post))) → First σ message pre c
+      → take (length (message (c .socket) .octets)) (ofSocket (c .socket) (after σ message (received side) (pre ++ (c ∷ more))) .part) ≡ message (c .socket) .octets
+  stand-here pre c more post r f =
+      let b = right-here pre c (more ++ post) r .1 .socket in
+      let all = all-front (Right σ message) (pre ++ (c ∷ more)) post (rw (append-assoc pre (c ∷ more) post) r) in
+      subst (λ (m : Message). take (length (m .octets)) (ofSocket (c .socket) (after σ message (received side) (pre ++ (c ∷ more))) .part) ≡ m .octets)
+      (message-at side σ message P (c .socket) b)
+      (octets-stand side σ message P (pre ++ (c ∷ more)) (all-at side σ message P (pre ++ (c ∷ more)) all) (callPlace c) (place-below (c .socket) (length (σ .links)) b)
+      (come-later (c .socket) b pre c more (f .0)))
+
+  once-here : (pre : List Call) (c : Call) (mid : List Call) (d : Call) (post : List Call) → All (Right σ message) (pre ++ (c ∷ (mid ++ (d ∷ post)))) → c .socket ≡ d .socket
+      → (values : List ℕ) → answer σ message (received side) pre c ≡ answered "delivered" values
+      → (others : List ℕ) → answer σ message (received side) (pre ++ (c ∷ mid)) d ≡ answered "delivered" others → ⊥
+  once-here pre c mid d post r q values e others e′ =
+      let all : All (Right σ message) ((pre ++ (c ∷ mid)) ++ (d ∷ post)) = rw (append-assoc pre (c ∷ mid) (d ∷ post)) r in
+      let b = right-here pre c (mid ++ (d ∷ post)) r .1 .socket in
+      let f = only-here pre c (mid ++ (d ∷ post)) r values e in
+      let g = only-here (pre ++ (c ∷ mid)) d post all others e′ in
+      g .1 (subst (λ (s : Socket). AllCome σ message s (pre ++ (c ∷ mid))) q
+      (come-all side σ message P (c .socket) b (pre ++ (c ∷ mid)) (right-here (pre ++ (c ∷ mid)) d post all .0) (come-later (c .socket) b pre c mid (f .0))))
+
+  the-claim : (cs : List Call) → All (Right σ message) cs → Claim σ message (received side) cs
+  the-claim cs r =
+      let m = mixture callPlace (step side σ message P) (length (σ .links)) getLink (atLink side σ message P) (Ok side σ message P) (RightAt side σ message P) (parts side σ message P) σ cs (starts side σ message P) (all-at side σ message P cs r) in
+      record {
+        due = λ pre c post e. due-here pre c post (rw e at r);
+        onlyThen = λ pre c post e. only-here pre c post (rw e at r);
+        stand = λ pre c more post e. stand-here pre c more post (rw e at r);
+        once = λ pre c mid d post e. once-here pre c mid d post (rw e at r);
+        sameEnd = m .0;
+        sameAnswers = m .1;
+      }
 
 -- DEMAND 3
-pub demand3 : Demand3
+pub demand3 : Demand3 received
 demand3 side σ message P cs r = the-claim side σ message P cs r

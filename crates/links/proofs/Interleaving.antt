@@ -5,9 +5,10 @@ use mathlib.Core.List.{List, [], _∷_, _++_, append-nil}
 use mathlib.Core.Logic.{_≢_}
 use mathlib.Core.Path.{_≡_, refl, sym, ap, _∙_}
 use lib.Dec.{eqb}
+use lib.Seq.{append-snoc}
 use borrow.Author.Tests.{eqb-true, eqb-false, ne-eqb}
 use Rattle.octets.proofs.Tests.{both}
-use Rattle.links.specs.Interleaving.{keepIf, withKey, inTurn, All, stateAfter, answers, keyOf}
+use Rattle.links.specs.Interleaving.{keepIf, withKey, inTurn, All, stateAfter, BeforeEach, answers, keyOf}
 
 module _ {B : Type 0} where
   pub with-key-append : (key : B → ℕ) (s : ℕ) (a b : List B) → withKey key s (a ++ b) ≡ withKey key s a ++ withKey key s b
@@ -60,6 +61,16 @@ module _ {S K A : Type 0} (step : S → K → A × S) where
   pub after-append : (σ : S) (a b : List K) → stateAfter step σ (a ++ b) ≡ stateAfter step (stateAfter step σ a) b
   after-append σ [] b = refl
   after-append σ (k ∷ a) b = after-append (step σ k .1) a b
+
+  before-snoc : (P : S → Type 0) (σ : S) (ks : List K) (k : K) → BeforeEach step P σ ks → P (stateAfter step σ ks) → BeforeEach step P σ (ks ++ (k ∷ []))
+  before-snoc P σ [] k h p = (p, tt)
+  before-snoc P σ (j ∷ ks) k h p = (h .0, before-snoc P (step σ j .1) ks k (h .1) p)
+
+  -- one call more behind a and k
+  pub before-each-snoc : (P : S → Type 0) (σ : S) (a : List K) (k : K) (b : List K) (c : K) → BeforeEach step P (stateAfter step σ (a ++ (k ∷ []))) b
+      → P (stateAfter step σ (a ++ (k ∷ b))) → BeforeEach step P (stateAfter step σ (a ++ (k ∷ []))) (b ++ (c ∷ []))
+  before-each-snoc P σ a k b c h p =
+      before-snoc P _ b c h (rw (← (after-append σ (a ++ (k ∷ [])) b), append-snoc a k b) p)
 
   pub answers-append : (σ : S) (a b : List K) → answers step σ (a ++ b) ≡ answers step σ a ++ answers step (stateAfter step σ a) b
   answers-append σ [] b = refl

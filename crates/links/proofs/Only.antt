@@ -1,193 +1,315 @@
--- Demand 2, only: any octets on any calls; what a link delivers has come, frame by frame, since nothing was half-received.
-use Prim.Native.Nat.{ℕ, _*_, _≤_, _<_}
+-- Demand 2, only: any operations and any octets; what a link delivers came by its cut, from the Start that began it on.
+use Prim.Native.Nat.{ℕ, zero, suc, _≤_, _<_}
 use native.Mathlib.Omega.{arith}
-use mathlib.Core.Bool.{_&&_}
-use mathlib.Core.List.{List, [], _∷_, _++_, append-nil, List·Memᴰ}
+use mathlib.Core.Bool.{true, false≢true}
+use mathlib.Core.List.{List, [], _∷_, _++_, append-assoc, append-nil, List·Memᴰ, List·Memᴰ·head, Memᴰ·cast, Memᴰ·append-left, Memᴰ·append-right}
+use mathlib.Core.Logic.{_≢_}
 use mathlib.Core.Path.{_≡_, refl, sym, ap, _∙_, subst}
 use lib.Dec.{eqb}
 use lib.ListN.{length, getD, take}
-use lib.Seq.{append-snoc}
+use lib.Seq.{append-snoc, length-take-le}
 use borrow.Author.Tests.{eqb-true, eqb-false}
 use Rattle.octets.specs.Numbers.{Octets}
-use Rattle.octets.specs.Parts.{part}
-use Rattle.octets.proofs.Tests.{cases, both-hold}
-use Rattle.transactions.specs.Segments.{segN}
+use Rattle.octets.specs.Parts.{part, write}
+use Rattle.octets.proofs.Parts.{write-length}
+use Rattle.octets.proofs.Cut.{place-up, piece-take}
+use Rattle.octets.proofs.Tests.{cases}
+use Rattle.fcs.specs.Fcs.{checkOctet}
+use Rattle.transactions.specs.Segments.{segN, segmentPlace}
 use Rattle.pb_adv.specs.Frame.{parsed, segmentOctets}
-use Rattle.pb_adv.specs.Promises.{Fits}
 use Rattle.transactions.specs.declared.TransactionNumber.{TransactionNumber}
-use Rattle.pb_adv.specs.declared.Segment.{Segment}
-use Rattle.pb_adv.specs.declared.Parsed.{Parsed}
+use Rattle.transactions.specs.declared.Socket.{Socket}
+use Rattle.pb_adv.specs.declared.SegmentHeader.{SegmentHeader}
 use Rattle.pb_adv.specs.declared.Parsed.the-variants as P
 use Rattle.pb_adv.proofs.Promises.{segments-are-encodings}
-use Rattle.pb_adv_writing.specs.Writing.{segmentFrame}
-use Rattle.links.specs.Links.{peer, sends, inUse, find}
-use Rattle.links.specs.Good.{good}
-use Rattle.links.specs.Segments.{OneLink, segmentStep}
-use Rattle.links.specs.Station.{Station, noLink, getLink, putLink, acknowledgementStep, ackStep, frameStep, frameRefusal, atSocket, onFrame, received}
-use Rattle.links.specs.Interleaving.{All, stateAfter}
-use Rattle.links.specs.Promises.{addressed}
-use Rattle.links.specs.Demand2.{Delivery, Only}
+use Rattle.pb_adv_writing.specs.Writing.{headerOf, segmentFrame}
+use Rattle.links.specs.Marks.{isMarked, withMark, allMarked}
+use Rattle.links.specs.Good.{goodLink, good}
+use Rattle.links.specs.Segments.{OneLink, marked}
+use Rattle.links.specs.Station.{Station, socketPlace, noLink, getLink, frameStep, atSocket, received}
+use Rattle.links.specs.Interleaving.{All, BeforeEach}
+use Rattle.links.specs.Operations.{Operation, receiving, opening, sending, closing, operate, afterAll, OfOctets}
+use Rattle.links.specs.Promises.{Sized, addressed}
+use Rattle.links.specs.Demand3.{Message}
+use Rattle.links.specs.Demand2.{OpenUnder, Receiving, CameByCut, FromCut, Delivery, Only}
 use Rattle.links.specs.declared.Side.{Side}
-use Rattle.links.specs.declared.Side.the-variants.{Provisioner, Device}
-use Rattle.links.specs.declared.LinkState.{LinkState}
 use Rattle.links.specs.declared.LinkState.the-variants as S
+use Rattle.links.specs.declared.HalfMessage.{HalfMessage}
+use Rattle.links.specs.declared.HalfReceived.{HalfReceived}
+use Rattle.links.specs.declared.HalfReceived.the-variants as H
 use Rattle.links.specs.declared.Link.{Link}
-use Rattle.links.specs.declared.Found.{Found}
-use Rattle.links.specs.declared.Found.the-variants.{At, Nowhere}
-use Rattle.links.specs.declared.Refusal.{Refusal}
-use Rattle.links.specs.declared.Refusal.the-variants as R
+use Rattle.links.specs.declared.Found.the-variants.{At}
 use Rattle.links.specs.declared.Answer.{Answer}
 use Rattle.links.specs.declared.Answer.the-variants as A
-use Rattle.links.proofs.Lens.{part-size, put-count, get-put, get-put-other, found-at}
-use Rattle.links.proofs.View.{IfDelivered, if-delivered, Quiet}
-use Rattle.links.proofs.Sound.{HalfCame, later, AllCame, Told, After, quiet-after, step-sound}
+use Rattle.links.proofs.Marks.{marked-other, none-marked, all-marked-each}
+use Rattle.links.proofs.Interleaving.{after-append, before-each-snoc}
+use Rattle.links.proofs.Deliver.{segmentIn, segment-fits-in, segment-same, segment-other}
+use Rattle.links.proofs.View.{headerAt, IfDelivered, if-delivered, Origin, held, begins, New}
+use Rattle.links.proofs.Sound.{Kept, stays, drops, kept-same, Ends, isWhole, isWrong, isKept, ends, keeps, enters, frame-does}
+use Rattle.links.proofs.Local.{open-after, send-after, close-after}
+use Rattle.links.proofs.Sound as Link
+use Rattle.links.proofs.Lens.{part-size, get-put, good-get}
+use Rattle.links.proofs.Keep.{GoodMessage, message-out, open-out, good-as}
+use Rattle.links.proofs.Promises.{refuses, steps, does, stepped-keeps, received-at, after-count}
+use Rattle.links.proofs.Promises as Promise
+use Rattle.links.proofs.Frames.{found-id, of-cut}
+use Rattle.links.proofs.Answers.{IsDelivered, delivered-told}
+use Rattle.links.proofs.Sockets.{socketAt, is-socket}
 
--- ---- one link, any frame for it
+-- ---- a half-received message, if there is one
 
--- what a frame leaves of a link that it was for
-record LinkAfter (x : OneLink) (history : List (List ℕ)) (r : Answer × OneLink) : Type 0 where
-  half : HalfCame (segmentOctets (r .1 .link .id)) history (r .1 .part) (r .1 .link .half)
-  told : Told (segmentOctets (x .link .id)) history (r .1 .part) (r .0)
-  size : length (r .1 .part) ≡ length (x .part)
+abbrev IfHalf : (HalfMessage → Type 0) → HalfReceived → Type 0
+IfHalf P H.Nothing = Unit {0}
+IfHalf P (H.Message h) = P h
 
--- a segment has the link's Link ID
-abbrev IdIs : ℕ → Parsed → Type 0
-IdIs id (P.Segment s) = s .id ≡ id
-IdIs id (P.Acknowledgement i t) = Unit {0}
-IdIs id (P.Open i uuid) = Unit {0}
-IdIs id (P.Ack i) = Unit {0}
-IdIs id (P.Close i reason) = Unit {0}
-IdIs id (P.Refused r) = Unit {0}
+if-half : (P Q : HalfMessage → Type 0) (o : HalfReceived) → ((h : HalfMessage) → o ≡ H.Message h → P h → Q h) → IfHalf P o → IfHalf Q o
+if-half P Q H.Nothing g i = tt
+if-half P Q (H.Message h) g i = g h refl i
 
-module _ (x : OneLink) (history : List (List ℕ)) (i : HalfCame (segmentOctets (x .link .id)) history (x .part) (x .link .half)) (room : 1469 ≤ length (x .part)) (f : List ℕ) (o : Octets f) where
-  from-after : (r : Answer × OneLink) → After (segmentOctets (x .link .id)) x (history ++ (f ∷ [])) r → LinkAfter x (history ++ (f ∷ [])) r
-  from-after r a = record {
-    half = subst (λ (j : ℕ). HalfCame (segmentOctets j) (history ++ (f ∷ [])) (r .1 .part) (r .1 .link .half)) (sym (a .id)) (a .half);
-    told = a .told;
-    size = a .size;
-  }
+-- segment k of the half-received message h, as it stands in the part p
+abbrev standing : ℕ → List ℕ → HalfMessage → ℕ → Operation
+standing id p h k = receiving (segmentOctets id (h .number) (headerAt (h .length) (h .check) k) (segmentIn (h .length) p k))
 
-  quiet : (a : Answer) → Quiet a → LinkAfter x (history ++ (f ∷ [])) (a, x)
-  quiet a q = from-after (a, x) (quiet-after (segmentOctets (x .link .id)) x history f i a q)
+-- other marks
+abbrev remarked : HalfMessage → ℕ → HalfMessage
+remarked h w = record { number = h .number; length = h .length; check = h .check; marks = w }
 
-  -- the record changes, but what is half-received and the Link ID stay
-  stays : (a : Answer) (l : Link) → Quiet a → l .id ≡ x .link .id → l .half ≡ x .link .half → LinkAfter x (history ++ (f ∷ [])) (a, record { link = l; part = x .part })
-  stays a l q e g =
-      let u = quiet-after (segmentOctets (x .link .id)) x history f i a q in
-      record { half = rw (e, g) (u .half); told = u .told; size = refl }
+module _ (side : Side) (σ : Station) (socket : Socket) where
+  -- its place
+  abbrev s : ℕ
+  s = socketPlace socket
 
-  of-segment : (s : Segment) → parsed f ≡ P.Segment s → s .id ≡ x .link .id
-      → LinkAfter x (history ++ (f ∷ [])) (segmentStep x (s .number) (s .header) (part f (s .from) (s .count)))
-  of-segment s e q =
-      let n = segments-are-encodings f o s e in
-      let d = part f (s .from) (s .count) in
-      let w : segmentOctets (x .link .id) (s .number) (s .header) d ≡ f = ap (λ (j : ℕ). segmentOctets j (s .number) (s .header) d) (sym q) ∙ sym (n .encoded) in
-      let v : Fits (s .header) (length d) = subst (Fits (s .header)) (sym (n .long)) (n .fits) in
-      from-after _
-      (subst (λ (g : List ℕ). After (segmentOctets (x .link .id)) x (history ++ (g ∷ [])) (segmentStep x (s .number) (s .header) d)) w
-      (step-sound (segmentOctets (x .link .id)) x history i room (s .number) (s .header) d v))
+  abbrev after : List Operation → Station
+  after past = afterAll side σ past
 
-  of-ack : (side : Side) → LinkAfter x (history ++ (f ∷ [])) (ackStep side x)
-  of-ack Provisioner = quiet A.Already tt
-  of-ack Device = quiet (A.Refused R.WrongDirection) tt
+  -- the half-received message h, whose octets stand in p: a Start began it, the link has had it since, and every marked segment has come since
+  record Since (past : List Operation) (id : ℕ) (p : List ℕ) (h : HalfMessage) : Type 0 where
+    before : List Operation
+    start : Operation
+    since : List Operation
+    split : past ≡ before ++ (start ∷ since)
+    opened : OpenUnder id (getLink s (after before))
+    held : BeforeEach (operate side) (λ τ. Receiving id (h .number) (h .length) (getLink s τ)) (after (before ++ (start ∷ []))) since
+    first : start ≡ standing id p h 0
+    came : (k : ℕ) → k ≤ segN (h .length) → isMarked (h .marks) k ≡ true → List·Memᴰ (standing id p h k) (start ∷ since)
 
-  link-sound : (side : Side) (state : LinkState) (p : Parsed) → parsed f ≡ p → IdIs (x .link .id) p → LinkAfter x (history ++ (f ∷ [])) (frameStep side x state f p)
-  unfolding frameStep acknowledgementStep
-  link-sound side S.Free p e q = quiet (A.Refused R.UnknownLink) tt
-  link-sound side S.Opening (P.Segment s) e q = quiet (A.Refused R.NotOpen) tt
-  link-sound side S.Opening (P.Acknowledgement id t) e q = quiet (A.Refused R.NotOpen) tt
-  link-sound side S.Opening (P.Open id uuid) e q = quiet (A.Refused R.NotOpen) tt
-  link-sound side S.Opening (P.Ack id) e q = stays A.Opened _ tt refl refl
-  link-sound side S.Opening (P.Close id reason) e q = record { half = tt; told = tt; size = refl }
-  link-sound side S.Opening (P.Refused r) e q = quiet (A.Refused (frameRefusal r)) tt
-  link-sound side S.Open (P.Segment s) e q =
-      cases (sends (peer side) (s .number)) (λ g. rw g (of-segment s e q)) (λ g. rw g (quiet (A.Refused R.WrongDirection) tt))
-  link-sound side S.Open (P.Acknowledgement id t) e q =
-      cases (sends side t)
-      (λ g. rw g (cases (x .link .outstanding && eqb (x .link .next .0) (t .0))
-      (λ g. rw g (stays A.Acknowledged _ tt refl refl)) (λ g. rw g (quiet (A.Refused R.NotOutstanding) tt))))
-      (λ g. rw g (quiet (A.Refused R.WrongDirection) tt))
-  link-sound side S.Open (P.Open id uuid) e q = quiet (A.Refused R.WrongDirection) tt
-  link-sound side S.Open (P.Ack id) e q = of-ack side
-  link-sound side S.Open (P.Close id reason) e q = record { half = tt; told = tt; size = refl }
-  link-sound side S.Open (P.Refused r) e q = quiet (A.Refused (frameRefusal r)) tt
+  -- a link whose half-received message, if any, is such
+  abbrev Sound : List Operation → OneLink → Type 0
+  Sound past x = IfHalf (λ h. (x .link .state ≡ S.Open) × Since past (x .link .id) (x .part) h) (x .link .half)
 
--- the frames of a message's cut are those of its segments
-frames-came : (id : ℕ) (history : List (List ℕ)) (t : TransactionNumber) (m : List ℕ) → AllCame (segmentOctets id) history t m
-    → (k : ℕ) → k ≤ segN (length m) → List·Memᴰ (segmentFrame id t m k) history
-unfolding segmentFrame
-frames-came id history t m h k b = h k b
+  -- with every segment marked, and the right check octet: the message came by its cut
+  module _ (past : List Operation) (id : ℕ) (p : List ℕ) (h : HalfMessage) (room : h .length ≤ length p) (right : checkOctet (take (h .length) p) ≡ h .check) where
+    abbrev message : List ℕ
+    message = take (h .length) p
 
--- ---- the station
+    long : length message ≡ h .length
+    long = length-take-le (h .length) p room
 
--- every marked segment of every half-received message has come
-abbrev AllLinks : List (List ℕ) → Station → Type 0
-AllLinks history σ = (s : ℕ) → s < length (σ .links) → HalfCame (segmentOctets (getLink s σ .link .id)) history (getLink s σ .part) (getLink s σ .link .half)
+    header-same : (k : ℕ) → headerOf message k ≡ headerAt (h .length) (h .check) k
+    unfolding headerOf
+    header-same zero = rw (long, right)
+    header-same (suc k) = refl
 
-record StationAfter (side : Side) (σ : Station) (f : List ℕ) (history : List (List ℕ)) (r : Answer × Station) : Type 0 where
-  links : AllLinks history (r .1)
-  told : IfDelivered (λ n t. r .1 ≡ received side σ f .1 → Delivery side σ f history n t) (r .0)
+    frame-same : (k : ℕ) → receiving (segmentFrame id (h .number) message k) ≡ standing id p h k
+    unfolding segmentFrame
+    frame-same k = rw (header-same k, long, piece-take segmentPlace refl (place-up 20 23) (h .length) p k)
 
-module _ (side : Side) (σ : Station) (history : List (List ℕ)) (i : AllLinks history σ) (f : List ℕ) (o : Octets f) where
-  as-it-was : (r : Refusal) → StationAfter side σ f (history ++ (f ∷ [])) (A.Refused r, σ)
-  as-it-was r = record { links = λ s h. later _ history f _ (getLink s σ .link .half) (i s h); told = tt }
+    by-cut : Since past id p h → allMarked (segN (h .length)) (h .marks) ≡ true → CameByCut side σ socket id (record { number = h .number; octets = message }) past
+    by-cut i all = record {
+      before = i .before;
+      start = i .start;
+      since = i .since;
+      split = i .split;
+      isStart = i .first ∙ sym (frame-same 0);
+      opened = i .opened;
+      held = rw long (i .held);
+      cut = λ f g.
+          let r = of-cut id (h .number) message (suc (segN (length message))) f g in
+          let b : r .index ≤ segN (h .length) = omega (arith, r .below, long) in
+          Memᴰ·cast (ap receiving (r .is) ∙ frame-same (r .index)) (i .came (r .index) b (all-marked-each (segN (h .length)) (h .marks) all (r .index) b));
+    }
 
-  found-id : (s id : ℕ) → find (σ .links) id ≡ At s → id ≡ getLink s σ .link .id
+  -- one operation more
+  module _ (past : List Operation) (c : Operation) where
+    abbrev here : OneLink
+    here = getLink s (after past)
+
+    -- what an operation leaves of the link
+    record Leaves (r : Answer × OneLink) : Type 0 where
+      half : Sound (past ++ (c ∷ [])) (r .1)
+      told : IfDelivered (λ n t. (length (take n (r .1 .part)) ≡ n) × CameByCut side σ socket (here .link .id) (record { number = t; octets = take n (r .1 .part) }) (past ++ (c ∷ []))) (r .0)
+
+    extends : (id : ℕ) (p : List ℕ) (h : HalfMessage) (i : Since past id p h) → Receiving id (h .number) (h .length) here
+        → (q : List ℕ) (w : ℕ) → standing id p h 0 ≡ standing id q h 0
+        → ((k : ℕ) → k ≤ segN (h .length) → isMarked w k ≡ true → List·Memᴰ (standing id q h k) (i .start ∷ (i .since ++ (c ∷ []))))
+        → Since (past ++ (c ∷ [])) id q (remarked h w)
+    extends id p h i now q w e g = record {
+      before = i .before;
+      start = i .start;
+      since = i .since ++ (c ∷ []);
+      split = ap (λ (l : List Operation). l ++ (c ∷ [])) (i .split) ∙ append-assoc (i .before) (i .start ∷ i .since) (c ∷ []);
+      opened = i .opened;
+      held = before-each-snoc (operate side) _ σ (i .before) (i .start) (i .since) c (i .held) (rw (← (i .split)) now);
+      first = i .first ∙ e;
+      came = g;
+    }
+
+    now : (h : HalfMessage) → here .link .half ≡ H.Message h → here .link .state ≡ S.Open → Receiving (here .link .id) (h .number) (h .length) here
+    now h g o = record { under = record { isOpen = o; hasId = refl }; half = h; isHalf = g; number = refl; long = refl }
+
+    -- that leaves what is half-received, or drops it
+    goes-on : (y : OneLink) → Sound past here → y .part ≡ here .part → Kept (here .link) (y .link) → Sound (past ++ (c ∷ [])) y
+    goes-on y i e (stays o id half) =
+        rw half (if-half (λ h. (here .link .state ≡ S.Open) × Since past (here .link .id) (here .part) h) _ (here .link .half) (λ h g r. (
+          o (r .0),
+          rw (id, e) (extends (here .link .id) (here .part) h (r .1) (now h g (r .0)) (here .part) (h .marks) refl (λ k b u. Memᴰ·append-left (c ∷ []) (r .1 .came k b u))),
+        )) i)
+    goes-on y i e (drops half) = rw half tt
+
+    -- that brings a new segment
+    module _ (sized : length (here .part) ≡ 1469) (linkGood : goodLink side (here .link) ≡ true) (opened : here .link .state ≡ S.Open) (i : Sound past here)
+        (t : TransactionNumber) (header : SegmentHeader) (d : List ℕ) (h : HalfMessage) (k : ℕ) (n : New here t header d h k)
+        (this : c ≡ receiving (segmentOctets (here .link .id) t header d)) where
+      abbrev id : ℕ
+      id = here .link .id
+
+      abbrev written : List ℕ
+      written = write (here .part) (segmentPlace k) d
+
+      good-half : here .link .half ≡ H.Message h → GoodMessage side (here .link .last) h
+      good-half e =
+          let o = open-out side (here .link) (good-as side (here .link) opened linkGood) in
+          message-out side (here .link .last) h (rw e at (o .2))
+
+      lengths : Origin here t header d h k → (1 ≤ h .length) × (h .length ≤ length (here .part))
+      lengths (held e) = let g = good-half e in (g .some-octets, omega (arith, g .few-octets))
+      lengths (begins m v e z some few) = rw e (some, omega arith)
+
+      some : 1 ≤ h .length
+      some = lengths (n .origin) .0
+
+      room : h .length ≤ length (here .part)
+      room = lengths (n .origin) .1
+
+      arrived : standing id written h k ≡ c
+      arrived = rw (this, segment-same (h .length) (here .part) k d some room (n .inside) (n .right), n .number, ← (n .this))
+
+      other : (j : ℕ) → k ≢ j → standing id (here .part) h j ≡ standing id written h j
+      other j z = rw (segment-other (h .length) (here .part) k d some room (n .inside) (n .right) j z)
+
+      grows : Since (past ++ (c ∷ [])) id written (marked h k)
+      grows = from (n .origin)
+        where
+          from : Origin here t header d h k → Since (past ++ (c ∷ [])) id written (marked h k)
+          from (held e) =
+              let r : (here .link .state ≡ S.Open) × Since past id (here .part) h = rw e at i in
+              extends id (here .part) h (r .1) (now h e opened) written (withMark (h .marks) k)
+              (other 0 (λ z. false≢true (sym (n .missing) ∙ ap (isMarked (h .marks)) z ∙ good-half e .first)))
+              (λ j b u. cases (eqb k j)
+              (λ z. rw (← (eqb-true k j z)) (Memᴰ·append-right (r .1 .start ∷ r .1 .since) (List·Memᴰ·head arrived)))
+              (λ z. let y = eqb-false k j z in Memᴰ·append-left (c ∷ []) (Memᴰ·cast (sym (other j y)) (r .1 .came j b (sym (marked-other (h .marks) k j y) ∙ u)))))
+          from (begins m v e z _ _) = record {
+            before = past;
+            start = c;
+            since = [];
+            split = refl;
+            opened = record { isOpen = opened; hasId = refl };
+            held = tt;
+            first = sym arrived ∙ ap (standing id written h) z;
+            came = λ j b u. cases (eqb k j)
+                (λ y. rw (← (eqb-true k j y)) (List·Memᴰ·head arrived))
+                (λ y. absurd (false≢true (sym (none-marked j) ∙ sym (ap (λ (g : HalfMessage). isMarked (g .marks) j) e) ∙ sym (marked-other (h .marks) k j (eqb-false k j y)) ∙ u)));
+          }
+
+      ended : {r : Answer × OneLink} → Ends here h k d r → Leaves r
+      ended (isWhole all right e) =
+          let size : length written ≡ length (here .part) = write-length (here .part) (segmentPlace k) d (segment-fits-in (h .length) (here .part) k d some room (n .inside) (n .right)) in
+          let fits : h .length ≤ length written = rw size room in
+          rw e (record { half = tt; told = (length-take-le (h .length) written fits, by-cut (past ++ (c ∷ [])) id written (marked h k) fits right grows all) })
+      ended (isWrong e) = rw e (record { half = tt; told = tt })
+      ended (isKept e) = rw e (record { half = (opened, grows); told = tt })
+
+  -- ---- any octets received
+
+  module _ (past : List Operation) (f : List ℕ) (o : Octets f) (i : Sound past (getLink s (after past))) where
+    same : Sound (past ++ (receiving f ∷ [])) (getLink s (after past))
+    same = goes-on past (receiving f) (getLink s (after past)) i refl (kept-same (getLink s (after past) .link))
+
+    at-link : Sized (after past) → good side (after past .links) ≡ true → s < length (after past .links) → addressed (after past .links) (parsed f) ≡ At s
+        → Leaves past (receiving f) (frameStep side (getLink s (after past)) (getLink s (after past) .link .state) f (parsed f))
+    at-link sized stateGood below at = of (frame-does (getLink s (after past)) f o side)
+      where
+        of : {r : Answer × OneLink} → Link.Does (getLink s (after past)) f o (parsed f) r → Leaves past (receiving f) r
+        of {r} (keeps q e k) = record { half = goes-on past (receiving f) (r .1) i e k; told = if-delivered (λ n t. ⊥) _ (λ n t z. absurd z) (r .0) q }
+        of {r} (enters g e opened h k n q) =
+            let d = part f (g .from) (g .count) in
+            let w = segments-are-encodings f o g e in
+            let id = found-id (after past) s (g .id) (rw e at at) in
+            rw q (ended past (receiving f) (part-size (length (after past .links)) (after past) refl sized s below) (good-get side (after past) s stateGood below) opened i
+            (g .number) (g .header) d h k n (ap receiving (w .encoded ∙ ap (λ (j : ℕ). segmentOctets j (g .number) (g .header) d) id)) (ends (getLink s (after past)) h k d))
+
+    received-sound : Sound (past ++ (receiving f ∷ [])) (getLink s (received side (after past) f .1))
+    received-sound = received-at side (after past) f o s (Sound (past ++ (receiving f ∷ []))) same (λ sized stateGood below at. at-link sized stateGood below at .half)
+
+  -- ---- any operations
+
+  local-sound : (past : List Operation) (c : Operation) (ls : List Link) → Sound past (getLink s (after past))
+      → Kept (getD (after past .links) s noLink) (getD ls s noLink) → Sound (past ++ (c ∷ [])) (getLink s (record { links = ls; area = after past .area }))
   unfolding getLink
-  found-id s id e = let h = found-at (σ .links) id s e in sym (eqb-true (getD (σ .links) s noLink .id) id (both-hold {a = inUse (getD (σ .links) s noLink .state)} {b = eqb (getD (σ .links) s noLink .id) id} (h .1) .1))
+  local-sound past c ls i k = goes-on past c _ i refl k
 
-  module _ (room : length (σ .area) ≡ 1469 * length (σ .links)) where
-    at-socket : (g : Found) (p : Parsed) → parsed f ≡ p → addressed (σ .links) p ≡ g → ((s : ℕ) → g ≡ At s → (s < length (σ .links)) × IdIs (getLink s σ .link .id) p)
-        → StationAfter side σ f (history ++ (f ∷ [])) (atSocket side σ g f p)
-    at-socket Nowhere p e a w = as-it-was R.UnknownLink
-    at-socket (At s) p e a w =
-        let below = w s refl .0 in
-        let n = length (σ .links) in
-        let x = getLink s σ in
-        let sized = part-size n σ refl room s below in
-        let r = frameStep side x (x .link .state) f p in
-        let u = link-sound x history (i s below) (omega arith) f o side (x .link .state) p e (w s refl .1) in
-        let same : getLink s (putLink s (r .1) σ) ≡ r .1 = get-put n σ refl room s below (r .1) (u .size ∙ sized) in
-        let count = put-count n σ refl room s below (r .1) (u .size ∙ sized) in
-        record {
-          links = λ j h. cases (eqb s j)
-              (λ q. rw (← (eqb-true s j q), same) (u .half))
-              (λ q. rw (get-put-other n σ refl room s below (r .1) (u .size ∙ sized) j (eqb-false s j q)) (later _ history f _ (getLink j σ .link .half) (i j (omega (arith, count)))));
-          told = if-delivered _ _
-              (λ n t v z. record {
-                socket = s;
-                isFor = ap (addressed (σ .links)) e ∙ a;
-                octets = take n (r .1 .part);
-                stand = rw (← z, same);
-                long = v .0;
-                cut = λ k b. frames-came (x .link .id) (history ++ (f ∷ [])) t (take n (r .1 .part)) (v .1) k (rw (v .0) b);
-              })
-              (r .0) (u .told);
-        }
+  operate-sound : (past : List Operation) (c : Operation) → OfOctets c → Sound past (getLink s (after past)) → Sound (past ++ (c ∷ [])) (getLink s (operate side (after past) c .1))
+  operate-sound past (receiving f) o i = received-sound past f o i
+  operate-sound past (opening w id) o i = local-sound past _ _ i (open-after Kept kept-same side (after past .links) w s id (λ l. drops refl))
+  operate-sound past (sending w n) o i = local-sound past _ _ i (send-after Kept kept-same side (after past .links) w s n (λ l. stays (λ e. e) refl refl))
+  operate-sound past (closing w) o i = local-sound past _ _ i (close-after Kept kept-same side (after past .links) w s (λ l. drops refl))
 
-    on-frame : (p : Parsed) → parsed f ≡ p → StationAfter side σ f (history ++ (f ∷ [])) (onFrame side σ f p)
-    on-frame (P.Segment s) e = at-socket _ (P.Segment s) e refl (λ k g. (found-at (σ .links) (s .id) k g .0, found-id k (s .id) g))
-    on-frame (P.Acknowledgement id t) e = at-socket _ (P.Acknowledgement id t) e refl (λ k g. (found-at (σ .links) id k g .0, tt))
-    on-frame (P.Open id uuid) e = at-socket _ (P.Open id uuid) e refl (λ k g. (found-at (σ .links) id k g .0, tt))
-    on-frame (P.Ack id) e = at-socket _ (P.Ack id) e refl (λ k g. (found-at (σ .links) id k g .0, tt))
-    on-frame (P.Close id reason) e = at-socket _ (P.Close id reason) e refl (λ k g. (found-at (σ .links) id k g .0, tt))
-    on-frame (P.Refused r) e = as-it-was (frameRefusal r)
+  runs : (a b : List Operation) → All OfOctets b → Sound a (getLink s (after a)) → Sound (a ++ b) (getLink s (after (a ++ b)))
+  runs a [] o i = rw (append-nil a) i
+  runs a (c ∷ b) o i =
+      rw (← (append-snoc a c b)) (runs (a ++ (c ∷ [])) b (o .1) (rw (after-append (operate side) σ a (c ∷ [])) (operate-sound a c (o .0) i)))
 
-  received-sound : StationAfter side σ f (history ++ (f ∷ [])) (received side σ f)
-  unfolding received
-  received-sound =
-      cases (eqb (length (σ .area)) (1469 * length (σ .links)))
-      (λ e. rw e (cases (good side (σ .links)) (λ g. rw g (on-frame (eqb-true _ _ e) (parsed f) refl)) (λ g. rw g (as-it-was R.BadState))))
-      (λ e. rw e (as-it-was R.WrongArgument))
+-- ---- a delivery
 
-runs : (side : Side) (a b : List (List ℕ)) (σ : Station) → AllLinks a σ → All Octets b → AllLinks (a ++ b) (stateAfter (received side) σ b)
-runs side a [] σ i o = rw (append-nil a) i
-runs side a (f ∷ b) σ i o =
-    rw (← (append-snoc a f b)) (runs side (a ++ (f ∷ [])) b (received side σ f .1) (received-sound side σ a i f (o .0) .links) (o .1))
+module _ (side : Side) (σ : Station) (operations : List Operation) (all : All OfOctets operations) (f : List ℕ) (o : Octets f) (values : List ℕ)
+    (delivered : IsDelivered (received side (afterAll side σ operations) f .0) values) where
+  abbrev τ : Station
+  τ = afterAll side σ operations
+
+  abbrev n : ℕ
+  n = delivered .long
+
+  delivers : (socket : Socket) → Sized τ → good side (τ .links) ≡ true → socketPlace socket < length (τ .links) → addressed (τ .links) (parsed f) ≡ At (socketPlace socket)
+      → received side τ f ≡ atSocket side τ (At (socketPlace socket)) f (parsed f) → getLink (socketPlace socket) σ .link .half ≡ H.Nothing → FromCut side σ socket operations f values
+  delivers socket sized stateGood below at q nothing =
+      let s = socketPlace socket in
+      let r = frameStep side (getLink s τ) (getLink s τ .link .state) f (parsed f) in
+      let u = at-link side σ socket operations f o (runs side σ socket [] operations all (rw nothing tt)) sized stateGood below at in
+      let end : getLink s (afterAll side σ (operations ++ (receiving f ∷ []))) ≡ r .1 =
+      ap (getLink s) (after-append (operate side) σ operations (receiving f ∷ []) ∙ ap (λ (p : Answer × Station). p .1) q) ∙ (get-put (length (τ .links)) τ refl sized s below (r .1) (stepped-keeps side τ f s o sized stateGood below .part)) in
+      let w = subst (IfDelivered (λ n t. (length (take n (r .1 .part)) ≡ n) × CameByCut side σ socket (getLink s τ .link .id) (record { number = t; octets = take n (r .1 .part) }) (operations ++ (receiving f ∷ []))))
+      (sym (ap (λ (p : Answer × Station). p .0) q) ∙ delivered .is) (u .told) in
+      record {
+        message = record { number = delivered .number; octets = take n (r .1 .part) };
+        valued = delivered .values-are ∙ ap (λ (k : ℕ). k ∷ delivered .number .0 ∷ []) (sym (w .0));
+        stands = rw (w .0, end);
+        came = w .1;
+      }
+
+  delivery : Delivery side σ operations f values
+  delivery = of (does side τ f)
+    where
+      of : Promise.Does side τ f (parsed f) (received side τ f) → Delivery side σ operations f values
+      of (refuses a q) = let e : A.Refused a ≡ A.Delivered n (delivered .number) = sym (ap (λ (p : Answer × Station). p .0) q) ∙ delivered .is in let z : _≡_ {A = ℕ} 0 1 = cc in absurd (omega arith)
+      of (steps j sized stateGood below at q) =
+          let p : j ≡ socketPlace (socketAt j) = omega arith in
+          record {
+            socket = socketAt j;
+            numbered = is-socket j (length (σ .links)) (rw (after-count side σ operations) at below);
+            isFor = at ∙ ap At p;
+            only = delivers (socketAt j) sized stateGood (omega arith) (at ∙ ap At p) (q ∙ ap (λ (i : ℕ). atSocket side τ (At i) f (parsed f)) p);
+          }
 
 -- DEMAND 2, ONLY
 pub only : Only
-only side σ nothing pre op f of n t e =
-    let τ = stateAfter (received side) σ pre in
-    subst (IfDelivered (λ n t. received side τ f .1 ≡ received side τ f .1 → Delivery side τ f (pre ++ (f ∷ [])) n t)) e
-    (received-sound side τ pre (runs side [] pre σ (λ s h. rw (nothing s h) tt) op) f of .told) refl
+only side σ operations all f o values e = delivery side σ operations all f o values (delivered-told _ values e)

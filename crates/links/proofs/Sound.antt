@@ -1,133 +1,108 @@
--- One link, and any segments at all: what is delivered has come, segment by segment.
-use Prim.Native.Nat.{ℕ, zero, suc, _+_, _≤_}
-use native.Mathlib.Omega.{arith}
-use mathlib.Core.Bool.{true, false, false≢true}
-use mathlib.Core.List.{List, [], _∷_, _++_, List·Memᴰ, List·Memᴰ·head, Memᴰ·append-left, Memᴰ·append-right}
-use mathlib.Core.Path.{_≡_, refl, sym, _∙_}
+-- What any frame does at a link of its Link ID: the half-received message stays, is dropped, or takes a new segment.
+use Prim.Native.Nat.{ℕ}
+use mathlib.Core.Bool.{true, _&&_}
+use mathlib.Core.List.{List}
+use mathlib.Core.Path.{_≡_, refl}
 use lib.Dec.{eqb}
 use lib.ListN.{length, take}
-use lib.Seq.{length-take-le}
-use borrow.Author.Tests.{eqb-true, eqb-false}
-use Rattle.octets.specs.Parts.{write}
-use Rattle.octets.proofs.Parts.{write-length}
-use Rattle.octets.proofs.Cut.{place-up, piece-take}
+use borrow.Author.Tests.{eqb-true}
+use Rattle.octets.specs.Numbers.{Octets}
+use Rattle.octets.specs.Parts.{part}
 use Rattle.octets.proofs.Tests.{cases}
 use Rattle.fcs.specs.Fcs.{checkOctet}
-use Rattle.transactions.specs.Segments.{segN, segmentPlace, segmentLength, segment}
+use Rattle.transactions.specs.Segments.{segN}
+use Rattle.pb_adv.specs.Frame.{parsed}
 use Rattle.pb_adv.specs.Promises.{Fits}
-use Rattle.transactions.specs.declared.TransactionNumber.{TransactionNumber}
-use Rattle.pb_adv.specs.declared.SegmentHeader.{SegmentHeader}
-use Rattle.pb_adv_writing.specs.Writing.{headerOf}
-use Rattle.links.specs.Marks.{isMarked, withMark, allMarked}
-use Rattle.links.specs.Segments.{OneLink, entered, segmentStep}
+use Rattle.pb_adv.specs.declared.Segment.{Segment}
+use Rattle.pb_adv.specs.declared.Parsed.{Parsed}
+use Rattle.pb_adv.specs.declared.Parsed.the-variants as P
+use Rattle.pb_adv.proofs.Promises.{segments-are-encodings}
+use Rattle.links.specs.Marks.{withMark, allMarked}
+use Rattle.links.specs.Links.{peer, sends}
+use Rattle.links.specs.Segments.{OneLink, partWith, whole, wrong, kept, entered, segmentStep}
+use Rattle.links.specs.Station.{acknowledgementStep, ackStep, frameRefusal, frameStep}
+use Rattle.links.specs.declared.Side.{Side}
+use Rattle.links.specs.declared.Side.the-variants.{Provisioner, Device}
+use Rattle.links.specs.declared.LinkState.{LinkState}
+use Rattle.links.specs.declared.LinkState.the-variants as S
 use Rattle.links.specs.declared.HalfMessage.{HalfMessage}
-use Rattle.links.specs.declared.HalfReceived.{HalfReceived}
 use Rattle.links.specs.declared.HalfReceived.the-variants as H
+use Rattle.links.specs.declared.Link.{Link}
+use Rattle.links.specs.declared.Refusal.the-variants as R
 use Rattle.links.specs.declared.Answer.{Answer}
-use Rattle.links.proofs.Marks.{marked-other, none-marked, all-marked-each}
-use Rattle.links.proofs.Deliver.{segmentIn, segment-fits-in, segment-same, segment-other}
-use Rattle.links.proofs.View.{headerAt, IfDelivered, if-delivered, Quiet, Origin, held, begins, View, asItWas, new, view}
+use Rattle.links.specs.declared.Answer.the-variants as A
+use Rattle.links.proofs.View.{Quiet, New, View, asItWas, new, view}
 
--- `wire t header d` is the frame that brings a segment to this link; the history is the list of frames that have come
-module _ (wire : TransactionNumber → SegmentHeader → List ℕ → List ℕ) where
-  -- segment k of h, as it stands in p, has come
-  abbrev pub Has : List (List ℕ) → List ℕ → HalfMessage → ℕ → Type 0
-  Has history p h k = List·Memᴰ (wire (h .number) (headerAt (h .length) (h .check) k) (segmentIn (h .length) p k)) history
+-- what is half-received stays as it was, or is dropped
+pub data Kept (l m : Link) : Type 0 where
+  stays : (l .state ≡ S.Open → m .state ≡ S.Open) → m .id ≡ l .id → m .half ≡ l .half → Kept l m
+  drops : m .half ≡ H.Nothing → Kept l m
 
-  -- every marked segment of a half-received message has come
-  pub record MarkedCame (history : List (List ℕ)) (p : List ℕ) (h : HalfMessage) : Type 0 where
-    pub some : 1 ≤ h .length
-    pub room : h .length ≤ length p
-    pub came : (k : ℕ) → k ≤ segN (h .length) → isMarked (h .marks) k ≡ true → Has history p h k
+pub kept-same : (l : Link) → Kept l l
+kept-same l = stays (λ e. e) refl refl
 
-  abbrev pub HalfCame : List (List ℕ) → List ℕ → HalfReceived → Type 0
-  HalfCame history p H.Nothing = Unit {0}
-  HalfCame history p (H.Message h) = MarkedCame history p h
+-- the three ends of a new segment
+module _ (x : OneLink) (h : HalfMessage) (k : ℕ) (d : List ℕ) where
+  pub data Ends (r : Answer × OneLink) : Type 0 where
+    isWhole : allMarked (segN (h .length)) (withMark (h .marks) k) ≡ true → checkOctet (take (h .length) (partWith x h k d)) ≡ h .check
+        → r ≡ whole x h k d → Ends r
+    isWrong : r ≡ wrong x h k d → Ends r
+    isKept : r ≡ kept x h k d → Ends r
 
-  -- and still has after one more frame
-  pub later : (history : List (List ℕ)) (f : List ℕ) (p : List ℕ) (o : HalfReceived) → HalfCame history p o → HalfCame (history ++ (f ∷ [])) p o
-  later history f p H.Nothing i = tt
-  later history f p (H.Message h) i = record { some = i .some; room = i .room; came = λ k b e. Memᴰ·append-left (f ∷ []) (i .came k b e) }
+  pub ends : Ends (entered x h k d)
+  unfolding entered
+  ends =
+      cases (allMarked (segN (h .length)) (withMark (h .marks) k))
+      (λ e. cases (eqb (checkOctet (take (h .length) (partWith x h k d))) (h .check))
+      (λ c. rw (e, c) (isWhole e (eqb-true _ _ c) refl)) (λ c. rw (e, c) (isWrong refl)))
+      (λ e. rw e (isKept refl))
 
-  -- each segment of the cut of m has come under number t
-  abbrev pub AllCame : List (List ℕ) → TransactionNumber → List ℕ → Type 0
-  AllCame history t m = (k : ℕ) → k ≤ segN (length m) → List·Memᴰ (wire t (headerOf m k) (segment m k)) history
+-- ---- a frame at a link
 
-  -- what is delivered has all come
-  abbrev pub Told : List (List ℕ) → List ℕ → Answer → Type 0
-  Told history p a = IfDelivered (λ n t. (length (take n p) ≡ n) × AllCame history t (take n p)) a
+module _ (x : OneLink) (f : List ℕ) (o : Octets f) where
+  pub data Does (p : Parsed) (r : Answer × OneLink) : Type 0 where
+    keeps : Quiet (r .0) → r .1 .part ≡ x .part → Kept (x .link) (r .1 .link) → Does p r
+    enters : (s : Segment) → p ≡ P.Segment s → x .link .state ≡ S.Open → (h : HalfMessage) (k : ℕ)
+        → New x (s .number) (s .header) (part f (s .from) (s .count)) h k → r ≡ entered x h k (part f (s .from) (s .count)) → Does p r
 
-  -- what a step leaves
-  pub record After (x : OneLink) (history : List (List ℕ)) (r : Answer × OneLink) : Type 0 where
-    pub half : HalfCame history (r .1 .part) (r .1 .link .half)
-    pub told : Told history (r .1 .part) (r .0)
-    pub size : length (r .1 .part) ≡ length (x .part)
-    pub id : r .1 .link .id ≡ x .link .id
+  quiet : {p : Parsed} (a : Answer) → Quiet a → Does p (a, x)
+  quiet a q = keeps q refl (kept-same (x .link))
 
-  -- a step that changes nothing and delivers nothing
-  pub quiet-after : (x : OneLink) (history : List (List ℕ)) (f : List ℕ) → HalfCame history (x .part) (x .link .half) → (a : Answer) → Quiet a
-      → After x (history ++ (f ∷ [])) (a, x)
-  quiet-after x history f i a q = record {
-    half = later history f (x .part) (x .link .half) i;
-    told = if-delivered (λ n t. ⊥) _ (λ n t z. absurd z) a q;
-    size = refl;
-    id = refl;
-  }
-
-  segment-take : (n : ℕ) (p : List ℕ) (k : ℕ) → segmentIn n (take n p) k ≡ segmentIn n p k
-  segment-take n p k = piece-take segmentPlace refl (place-up 20 23) n p k
-
-  cut-header : (n c : ℕ) (p : List ℕ) (k : ℕ) → length (take n p) ≡ n → checkOctet (take n p) ≡ c → headerOf (take n p) k ≡ headerAt n c k
-  unfolding headerOf
-  cut-header n c p zero l e = rw (l, e)
-  cut-header n c p (suc k) l e = refl
-
-  -- a new segment
-  module _ (x : OneLink) (h : HalfMessage) (k : ℕ) (d : List ℕ) (history : List (List ℕ)) (i : MarkedCame history (x .part) h)
-      (inside : k ≤ segN (h .length)) (right : length d ≡ segmentLength (h .length) k) (header : SegmentHeader) (this : header ≡ headerAt (h .length) (h .check) k) where
-    entered-came : (j : ℕ) → j ≤ segN (h .length) → isMarked (withMark (h .marks) k) j ≡ true
-        → Has (history ++ (wire (h .number) header d ∷ [])) (write (x .part) (segmentPlace k) d) h j
-    entered-came j b e =
-        cases (eqb k j)
-        (λ q. rw (← (eqb-true k j q), segment-same (h .length) (x .part) k d (i .some) (i .room) inside right, ← this) (Memᴰ·append-right history (List·Memᴰ·head refl)))
-        (λ q. rw (segment-other (h .length) (x .part) k d (i .some) (i .room) inside right j (eqb-false k j q))
-        (Memᴰ·append-left _ (i .came j b (sym (marked-other (h .marks) k j (eqb-false k j q)) ∙ e))))
-
-    same-size : length (write (x .part) (segmentPlace k) d) ≡ length (x .part)
-    same-size = write-length (x .part) (segmentPlace k) d (segment-fits-in (h .length) (x .part) k d (i .some) (i .room) inside right)
-
-    enter-sound : After x (history ++ (wire (h .number) header d ∷ [])) (entered x h k d)
-    unfolding entered
-    enter-sound =
-        let p = write (x .part) (segmentPlace k) d in
-        let roomy : h .length ≤ length p = rw same-size (i .room) in
-        let l = length-take-le (h .length) p roomy in
-        cases (allMarked (segN (h .length)) (withMark (h .marks) k))
-        (λ e. cases (eqb (checkOctet (take (h .length) p)) (h .check))
-        (λ c. rw (e, c) (record {
-          half = tt;
-          size = same-size;
-          id = refl;
-          told = (
-            l,
-            λ j b. let b′ : j ≤ segN (h .length) = rw l at b in
-                rw (cut-header (h .length) (h .check) p j l (eqb-true _ _ c), l, segment-take (h .length) p j)
-                (entered-came j b′ (all-marked-each (segN (h .length)) (withMark (h .marks) k) e j b′)),
-          );
-        }))
-        (λ c. rw (e, c) (record { half = tt; told = tt; size = same-size; id = refl })))
-        (λ e. rw e (record { half = record { some = i .some; room = roomy; came = entered-came }; told = tt; size = same-size; id = refl }))
-
-  -- ONE LINK, one segment of any kind
-  pub step-sound : (x : OneLink) (history : List (List ℕ)) → HalfCame history (x .part) (x .link .half) → 1469 ≤ length (x .part)
-      → (t : TransactionNumber) (header : SegmentHeader) (d : List ℕ) → Fits header (length d) → After x (history ++ (wire t header d ∷ [])) (segmentStep x t header d)
-  step-sound x history i room t header d v = at (view x t header d v)
+  of-segment : x .link .state ≡ S.Open → (s : Segment) → parsed f ≡ P.Segment s
+      → Does (P.Segment s) (segmentStep x (s .number) (s .header) (part f (s .from) (s .count)))
+  of-segment opened s e = of (view x (s .number) (s .header) (part f (s .from) (s .count)) fits)
     where
-      came : (h : HalfMessage) (k : ℕ) → Origin x t header d h k → MarkedCame history (x .part) h
-      came h k (held e) = rw e at i
-      came h k (begins n c e _ some few) =
-          rw e (record { some = some; room = omega arith; came = λ j u w. absurd (false≢true (sym (none-marked j) ∙ w)) })
+      fits : Fits (s .header) (length (part f (s .from) (s .count)))
+      fits = let n = segments-are-encodings f o s e in rw (n .long) (n .fits)
 
-      at : View x t header d (segmentStep x t header d) → After x (history ++ (wire t header d ∷ [])) (segmentStep x t header d)
-      at (asItWas a q e) = rw e (quiet-after x history (wire t header d) i a q)
-      at (new h k n e) = rw (e, ← (n .number)) (enter-sound x h k d history (came h k (n .origin)) (n .inside) (n .right) header (n .this))
+      of : {r : Answer × OneLink} → View x (s .number) (s .header) (part f (s .from) (s .count)) r → Does (P.Segment s) r
+      of (asItWas a q e) = rw e (quiet a q)
+      of (new h k n e) = enters s refl opened h k n e
+
+  of-ack : (side : Side) {p : Parsed} → Does p (ackStep side x)
+  of-ack Provisioner = quiet A.Already tt
+  of-ack Device = quiet (A.Refused R.WrongDirection) tt
+
+  does-as : (side : Side) (state : LinkState) → x .link .state ≡ state → (p : Parsed) → parsed f ≡ p → Does p (frameStep side x state f p)
+  unfolding frameStep acknowledgementStep
+  does-as side S.Free z p e = quiet (A.Refused R.UnknownLink) tt
+  does-as side S.Opening z (P.Segment s) e = quiet (A.Refused R.NotOpen) tt
+  does-as side S.Opening z (P.Acknowledgement id t) e = quiet (A.Refused R.NotOpen) tt
+  does-as side S.Opening z (P.Open id uuid) e = quiet (A.Refused R.NotOpen) tt
+  does-as side S.Opening z (P.Ack id) e = keeps tt refl (stays (λ _. refl) refl refl)
+  does-as side S.Opening z (P.Close id reason) e = keeps tt refl (drops refl)
+  does-as side S.Opening z (P.Refused r) e = quiet (A.Refused (frameRefusal r)) tt
+  does-as side S.Open z (P.Segment s) e =
+      cases (sends (peer side) (s .number)) (λ g. rw g (of-segment z s e)) (λ g. rw g (quiet (A.Refused R.WrongDirection) tt))
+  does-as side S.Open z (P.Acknowledgement id t) e =
+      cases (sends side t)
+      (λ g. rw g (cases (x .link .outstanding && eqb (x .link .next .0) (t .0))
+      (λ g. rw g (keeps tt refl (stays (λ q. q) refl refl))) (λ g. rw g (quiet (A.Refused R.NotOutstanding) tt))))
+      (λ g. rw g (quiet (A.Refused R.WrongDirection) tt))
+  does-as side S.Open z (P.Open id uuid) e = quiet (A.Refused R.WrongDirection) tt
+  does-as side S.Open z (P.Ack id) e = of-ack side
+  does-as side S.Open z (P.Close id reason) e = keeps tt refl (drops refl)
+  does-as side S.Open z (P.Refused r) e = quiet (A.Refused (frameRefusal r)) tt
+
+  pub frame-does : (side : Side) → Does (parsed f) (frameStep side x (x .link .state) f (parsed f))
+  frame-does side = does-as side (x .link .state) refl (parsed f) refl

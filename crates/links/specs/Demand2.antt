@@ -1,63 +1,156 @@
 -- DEMAND 2 over a link: a message cut and received comes back, and a delivery comes only from the exact cut of what is delivered. The proofs
--- are `proofs/Back.antt` and `proofs/Only.antt`.
-use Prim.Native.Nat.{ℕ, _≤_, _<_}
-use mathlib.Core.List.{List, [], _∷_, _++_, map, List·Memᴰ}
+-- are `proofs/Back.antt`, `proofs/Only.antt` and `proofs/Opened.antt`.
+use Prim.Native.Nat.{ℕ, _*_}
+use mathlib.Core.Bool.{Bool, true, false}
+use mathlib.Core.List.{List, [], _∷_, _++_, List·Memᴰ}
+use mathlib.Core.Logic.{_≢_, _⊎_}
 use mathlib.Core.Path.{_≡_}
 use lib.ListN.{length, take}
 use Rattle.octets.specs.Numbers.{Octets}
-use Rattle.transactions.specs.Segments.{segN}
-use Rattle.pb_adv.specs.Frame.{parsed}
+use Rattle.octets.specs.Told.{answered}
+use Rattle.pb_adv.specs.Frame.{linkId, parsed}
+use Rattle.transactions.specs.Numbers.{isSocket}
 use Rattle.transactions.specs.declared.TransactionNumber.{TransactionNumber}
-use Rattle.pb_adv_writing.specs.Writing.{segmentFrame}
-use Rattle.links.specs.Station.{Station, getLink, received}
-use Rattle.links.specs.Interleaving.{All, stateAfter}
+use Rattle.transactions.specs.declared.Socket.{Socket}
+use Rattle.pb_adv.specs.declared.Parsed.{Parsed}
+use Rattle.pb_adv.specs.declared.Parsed.the-variants as P
+use Rattle.pb_adv_writing.specs.Writing.{segmentFrame, messageFrames}
+use Rattle.links.specs.Links.{inUse, told}
+use Rattle.links.specs.Good.{good}
+use Rattle.links.specs.Segments.{OneLink}
+use Rattle.links.specs.Station.{Station, socketPlace, ofSocket, received}
+use Rattle.links.specs.Interleaving.{All, stateAfter, BeforeEach}
+use Rattle.links.specs.Operations.{Operation, receiving, opening, sending, closing, ReceivingStep, Receiver, operateBy, operate, afterAll, OfOctets}
 use Rattle.links.specs.Promises.{addressed}
-use Rattle.links.specs.Demand3.{Message, Call, Each, octetsOf, Premises, after, answer, delivery}
+use Rattle.links.specs.Demand3.{Message, Ready, cutAt}
 use Rattle.links.specs.declared.Side.{Side}
+use Rattle.links.specs.declared.Side.the-variants.{Provisioner}
+use Rattle.links.specs.declared.LinkState.the-variants as S
+use Rattle.links.specs.declared.HalfMessage.{HalfMessage}
 use Rattle.links.specs.declared.HalfReceived.the-variants as H
+use Rattle.links.specs.declared.Link.{Link}
 use Rattle.links.specs.declared.Found.the-variants.{At}
-use Rattle.links.specs.declared.Answer.the-variants as A
 
--- ---- back: "A message cut and received gives that message back, on a link under 3's premises"
+-- ---- back: "A message cut and received gives that message back, on a link under 3's premises [..] in a state that isn't bad"
 
--- the calls that bring segments to one socket
-abbrev pub callsTo : ℕ → List ℕ → List Call
-callsTo s ks = map (λ k. record { socket = s; segment = k }) ks
+-- a frame that is neither a segment nor a Close
+abbrev pub isOther : Parsed → Bool
+isOther (P.Segment s) = false
+isOther (P.Acknowledgement id t) = true
+isOther (P.Open id uuid) = true
+isOther (P.Ack id) = true
+isOther (P.Close id reason) = false
+isOther (P.Refused r) = true
 
-module _ (side : Side) (σ : Station) (message : ℕ → Message) where
-  -- socket s has received its message by the calls cs: one of them answered "delivered" with its length and number, and its octets stand at the
-  -- start of the socket's part
-  pub record GivenBack (s : ℕ) (cs : List Call) : Type 0 where
-    pub before : List Call
-    pub call : Call
-    pub rest : List Call
-    pub split : cs ≡ before ++ (call ∷ rest)
-    pub delivered : answer side σ message before call ≡ delivery side σ message s
-    pub stands : take (length (octetsOf side σ message s)) (getLink s (after side σ message cs) .part) ≡ octetsOf side σ message s
+module _ (side : Side) (σ : Station) (s : Socket) (m : Message) where
+  abbrev pub own : Link
+  own = ofSocket s σ .link
 
--- the segments of the cut, in any order that begins with the Start and with any repeats
-abbrev pub Back : Type 0
-Back =
-    (side : Side) (σ : Station) (message : ℕ → Message) → Premises side σ message → (s : ℕ) → s < length (σ .links)
-    → (ks : List ℕ) → All (λ k. k ≤ segN (length (octetsOf side σ message s))) (0 ∷ ks) → Each (segN (length (octetsOf side σ message s))) (0 ∷ ks)
-    → GivenBack side σ message s (callsTo s (0 ∷ ks))
+  -- 3's premises for the link of socket s; the other links are in any state that isn't bad
+  pub record Prepared : Type 0 where
+    pub room : length (σ .area) ≡ 1469 * length (σ .links)
+    pub notBad : good side (σ .links) ≡ true
+    pub socket : isSocket s (length (σ .links)) ≡ true
+    pub ready : Ready side own m
+
+  -- what may come: frames of the cut, and in between any octets with another Link ID, any octets but segments and Closes with the link's own, any
+  -- local Send, and the local Opens (of the provisioner's end, the other has none) and Closes of other sockets
+  abbrev pub MayCome : Operation → Type 0
+  MayCome (receiving f) = List·Memᴰ f (cutAt own m) ⊎ (((linkId f ≢ own .id) ⊎ (isOther (parsed f) ≡ true)) × Octets f)
+  MayCome (opening socket id) = (socketPlace s ≢ socketPlace socket) × (side ≡ Provisioner)
+  MayCome (sending socket n) = Unit {0}
+  MayCome (closing socket) = socketPlace s ≢ socketPlace socket
+
+  -- every frame of the cut comes at or after a Start
+  pub record CutComes (operations : List Operation) : Type 0 where
+    pub before : List Operation
+    pub since : List Operation
+    pub split : operations ≡ before ++ (receiving (segmentFrame (own .id) (m .number) (m .octets) 0) ∷ since)
+    pub cut : (f : List ℕ) → List·Memᴰ f (cutAt own m) → List·Memᴰ (receiving f) (receiving (segmentFrame (own .id) (m .number) (m .octets) 0) ∷ since)
+
+  -- the message is given back: one of the operations answers "delivered" with its length and number, and its octets stand at the start of the
+  -- socket's part at the end
+  pub record GivenBack (step : ReceivingStep) (operations : List Operation) : Type 0 where
+    pub before : List Operation
+    pub frame : List ℕ
+    pub rest : List Operation
+    pub split : operations ≡ before ++ (receiving frame ∷ rest)
+    pub delivered : told (step (stateAfter (operateBy step side) σ before) frame .0) ≡ answered "delivered" (length (m .octets) ∷ m .number .0 ∷ [])
+    pub stands : take (length (m .octets)) (ofSocket s (stateAfter (operateBy step side) σ operations) .part) ≡ m .octets
+
+-- in any order, with any repeats; stated of any receiver, and document 01's rules, `received`, meet it
+abbrev pub Back : Receiver → Type 0
+Back receive =
+    (side : Side) (σ : Station) (s : Socket) (m : Message) → Prepared side σ s m
+    → (operations : List Operation) → All (MayCome side σ s m) operations → CutComes side σ s m operations → GivenBack side σ s m (receive side) operations
 
 -- ---- only: "where nothing was half-received at the start, a link's delivery comes only from the exact cut of what is delivered"
 
--- the call with frame f, of the frames that came with calls so far, delivers n octets under number t: they stand at the start of the part of the
--- socket that f is for, and every frame of their cut, with that link's Link ID and t, has come
-pub record Delivery (side : Side) (σ : Station) (f : List ℕ) (came : List (List ℕ)) (n : ℕ) (t : TransactionNumber) : Type 0 where
-  pub socket : ℕ
-  pub isFor : addressed (σ .links) (parsed f) ≡ At socket
-  pub octets : List ℕ
-  pub stand : take n (getLink socket (received side σ f .1) .part) ≡ octets
-  pub long : length octets ≡ n
-  pub cut : (k : ℕ) → k ≤ segN n → List·Memᴰ (segmentFrame (getLink socket σ .link .id) t octets k) came
+-- a link that is open under a Link ID
+pub record OpenUnder (id : ℕ) (x : OneLink) : Type 0 where
+  pub isOpen : x .link .state ≡ S.Open
+  pub hasId : x .link .id ≡ id
 
--- any octets on any calls
+-- and has a message of n octets under number t half-received
+pub record Receiving (id : ℕ) (t : TransactionNumber) (n : ℕ) (x : OneLink) : Type 0 where
+  pub under : OpenUnder id x
+  pub half : HalfMessage
+  pub isHalf : x .link .half ≡ H.Message half
+  pub number : half .number ≡ t
+  pub long : half .length ≡ n
+
+module _ (side : Side) (σ : Station) where
+  -- The message m came to socket s by its cut alone, with a Link ID and under its number: a Start began it while the link was open under the Link ID;
+  -- before each operation since, the link was open under it with the message half-received, so nothing closed it and no other message took its
+  -- place; and every frame of the cut is among the operations from that Start on.
+  pub record CameByCut (s : Socket) (id : ℕ) (m : Message) (operations : List Operation) : Type 0 where
+    pub before : List Operation
+    pub start : Operation
+    pub since : List Operation
+    pub split : operations ≡ before ++ (start ∷ since)
+    pub isStart : start ≡ receiving (segmentFrame id (m .number) (m .octets) 0)
+    pub opened : OpenUnder id (ofSocket s (afterAll side σ before))
+    pub held : BeforeEach (operate side) (λ τ. Receiving id (m .number) (length (m .octets)) (ofSocket s τ)) (afterAll side σ (before ++ (start ∷ []))) since
+    pub cut : (f : List ℕ) → List·Memᴰ f (messageFrames id (m .number) (m .octets)) → List·Memᴰ (receiving f) (start ∷ since)
+
+  -- the frame f, received after those operations, delivers at socket s, with such values, a message of that length and number: its octets stand at
+  -- the start of the socket's part and came by their cut alone, with the link's Link ID
+  pub record FromCut (s : Socket) (operations : List Operation) (f values : List ℕ) : Type 0 where
+    pub message : Message
+    pub valued : values ≡ length (message .octets) ∷ message .number .0 ∷ []
+    pub stands : take (length (message .octets)) (ofSocket s (afterAll side σ (operations ++ (receiving f ∷ []))) .part) ≡ message .octets
+    pub came : CameByCut s (ofSocket s (afterAll side σ operations) .link .id) message (operations ++ (receiving f ∷ []))
+
+  -- a delivery is that of the socket that the frame is for, and comes from the cut where nothing was half-received on that socket's link at the start
+  pub record Delivery (operations : List Operation) (f values : List ℕ) : Type 0 where
+    pub socket : Socket
+    pub numbered : isSocket socket (length (σ .links)) ≡ true
+    pub isFor : addressed (afterAll side σ operations .links) (parsed f) ≡ At (socketPlace socket)
+    pub only : ofSocket socket σ .link .half ≡ H.Nothing → FromCut socket operations f values
+
+-- any operations, refused ones too, and any octets
 abbrev pub Only : Type 0
 Only =
-    (side : Side) (σ : Station) → ((s : ℕ) → s < length (σ .links) → getLink s σ .link .half ≡ H.Nothing)
-    → (pre : List (List ℕ)) → All Octets pre → (f : List ℕ) → Octets f
-    → (n : ℕ) (t : TransactionNumber) → received side (stateAfter (received side) σ pre) f .0 ≡ A.Delivered n t
-    → Delivery side (stateAfter (received side) σ pre) f (pre ++ (f ∷ [])) n t
+    (side : Side) (σ : Station) (operations : List Operation) → All OfOctets operations → (f : List ℕ) → Octets f
+    → (values : List ℕ) → told (received side (afterAll side σ operations) f .0) ≡ answered "delivered" values → Delivery side σ operations f values
+
+-- ---- and a link in use that wasn't at the start was opened since
+
+-- a link in use under a Link ID
+pub record UsedUnder (id : ℕ) (x : OneLink) : Type 0 where
+  pub isUsed : inUse (x .link .state) ≡ true
+  pub hasId : x .link .id ≡ id
+
+-- a local Open of socket s, answered "done", gave it the Link ID under which it has been in use since
+pub record OpenedBy (side : Side) (σ : Station) (s : Socket) (id : ℕ) (operations : List Operation) : Type 0 where
+  pub before : List Operation
+  pub since : List Operation
+  pub split : operations ≡ before ++ (opening s id ∷ since)
+  pub done : told (operate side (afterAll side σ before) (opening s id) .0) ≡ answered "done" []
+  pub held : BeforeEach (operate side) (λ τ. UsedUnder id (ofSocket s τ)) (afterAll side σ (before ++ (opening s id ∷ []))) since
+
+abbrev pub OpenedSince : Type 0
+OpenedSince =
+    (side : Side) (σ : Station) (s : Socket) → isSocket s (length (σ .links)) ≡ true → inUse (ofSocket s σ .link .state) ≡ false
+    → (operations : List Operation) → All OfOctets operations
+    → inUse (ofSocket s (afterAll side σ operations) .link .state) ≡ true → OpenedBy side σ s (ofSocket s (afterAll side σ operations) .link .id) operations

@@ -34,6 +34,11 @@ module _ {S K A : Type 0} (step : S → K → A × S) where
   answers σ [] = []
   answers σ (k ∷ ks) = (k, step σ k .0) ∷ answers (step σ k .1) ks
 
+  -- P holds of the state before each of the calls
+  abbrev pub BeforeEach : (S → Type 0) → S → List K → Type 0
+  BeforeEach P σ [] = Unit {0}
+  BeforeEach P σ (k ∷ ks) = P σ × BeforeEach P (step σ k .1) ks
+
 -- the key of a call with its answer
 abbrev pub keyOf : {K A : Type 0} → (K → ℕ) → K × A → ℕ
 keyOf key p = key (p .0)

@@ -5,5 +5,8 @@ pub mod Segments
 pub mod Station
 pub mod Promises
 pub mod Interleaving
+pub mod Operations
 pub mod Demand3
 pub mod Demand2
+pub mod Tables
+pub mod Idle

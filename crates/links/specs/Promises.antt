@@ -1,26 +1,23 @@
 -- What is promised of each call of a station, one by one. The proofs are `proofs/Promises.antt`. Demands 2 and 3, over lists of calls, are
 -- `specs/Demand2.antt` and `specs/Demand3.antt`.
-use Prim.Native.Nat.{ℕ, _*_, _-_}
+use Prim.Native.Nat.{ℕ, _*_}
 use mathlib.Core.Bool.{true}
 use mathlib.Core.List.{List}
 use mathlib.Core.Logic.{_≢_}
 use mathlib.Core.Path.{_≡_}
-use lib.ListN.{length, getD, set}
+use lib.ListN.{length, getD}
 use Rattle.octets.specs.Numbers.{Octets}
-use Rattle.octets.specs.Parts.{part, write}
 use Rattle.octets.specs.Told.{refused}
-use Rattle.transactions.specs.Segments.{segmentPlace}
-use Rattle.pb_adv.specs.Frame.{parsed, indexOf, told as frameTold}
+use Rattle.pb_adv.specs.Frame.{parsed}
 use Rattle.transactions.specs.declared.Socket.{Socket}
 use Rattle.pb_adv.specs.declared.Segment.{Segment}
 use Rattle.pb_adv.specs.declared.Parsed.{Parsed}
 use Rattle.pb_adv.specs.declared.Parsed.the-variants as P
-use Rattle.links.specs.Links.{withReceived, find, told}
+use Rattle.links.specs.Links.{find, told}
 use Rattle.links.specs.Good.{good}
-use Rattle.links.specs.Station.{Station, noLink, getLink, received, localOpen, localSend, localClose}
+use Rattle.links.specs.Station.{Station, socketPlace, noLink, getLink, received, localOpen, localSend, localClose}
 use Rattle.links.specs.declared.Side.{Side}
 use Rattle.links.specs.declared.Side.the-variants.{Provisioner}
-use Rattle.links.specs.declared.HalfReceived.the-variants as H
 use Rattle.links.specs.declared.Link.{Link}
 use Rattle.links.specs.declared.Found.{Found}
 use Rattle.links.specs.declared.Found.the-variants.{At, Nowhere}
@@ -38,26 +35,6 @@ ReceivingRefusalKeeps =
 
 abbrev pub LocalRefusalKeeps : (List Link → Answer × List Link) → Type 0
 LocalRefusalKeeps call = (ls : List Link) (n : ℕ) → told (call ls .0) ≡ refused n → call ls .1 ≡ ls
-
--- octets that are no frame are refused with the number that reading them gives, 1 or 2
-abbrev pub NoFrameRefused : Type 0
-NoFrameRefused =
-    (side : Side) (σ : Station) (f : List ℕ) (n : ℕ) → Sized σ → good side (σ .links) ≡ true → frameTold (parsed f) ≡ refused n
-    → told (received side σ f .0) ≡ refused n
-
--- what remains after refusal 8: the half-received message is cleared and the segment's octets stand at their place; the rest, the last delivered
--- number among it, is as it was
-pub record AfterWrongCheck (side : Side) (σ : Station) (f : List ℕ) : Type 0 where
-  pub segment : Segment
-  pub isSegment : parsed f ≡ P.Segment segment
-  pub socket : ℕ
-  pub found : find (σ .links) (segment .id) ≡ At socket
-  pub links : received side σ f .1 .links ≡ set (σ .links) socket (withReceived (getLink socket σ .link) (getLink socket σ .link .last) H.Nothing)
-  pub area : received side σ f .1 .area
-      ≡ write (σ .area) (1469 * socket) (write (getLink socket σ .part) (segmentPlace (indexOf (segment .header))) (part f (segment .from) (segment .count)))
-
-abbrev pub WrongCheckRemains : Type 0
-WrongCheckRemains = (side : Side) (σ : Station) (f : List ℕ) → told (received side σ f .0) ≡ refused 8 → AfterWrongCheck side σ f
 
 -- ---- a good state stays good
 
@@ -83,7 +60,7 @@ ReceivingLeavesOthers =
     (side : Side) (σ : Station) (f : List ℕ) (j : ℕ) → Octets f → addressed (σ .links) (parsed f) ≢ At j → getLink j (received side σ f .1) ≡ getLink j σ
 
 abbrev pub LocalLeavesOthers : Socket → (List Link → Answer × List Link) → Type 0
-LocalLeavesOthers s call = (ls : List Link) (j : ℕ) → j ≢ s .0 - 1 → getD (call ls .1) j noLink ≡ getD ls j noLink
+LocalLeavesOthers s call = (ls : List Link) (j : ℕ) → j ≢ socketPlace s → getD (call ls .1) j noLink ≡ getD ls j noLink
 
 -- ---- the three local calls; the device's end has no local Open
 

@@ -33,7 +33,11 @@ pub record Station : Type 0 where
   pub links : List Link
   pub area : List ℕ
 
--- ---- one socket's record and part, counted from 0
+-- ---- one socket's record and part
+
+-- the place of a socket, which counts from 1, among the records and the parts, which count from 0
+abbrev pub socketPlace : Socket → ℕ
+socketPlace s = s .0 - 1
 
 -- what is read past the last record
 abbrev pub noLink : Link
@@ -44,6 +48,10 @@ getLink s σ = record { link = getD (σ .links) s noLink; part = part (σ .area)
 
 unfoldable pub putLink : ℕ → OneLink → Station → Station
 putLink s x σ = record { links = set (σ .links) s (x .link); area = write (σ .area) (1469 * s) (x .part) }
+
+-- a socket's link with its part
+abbrev pub ofSocket : Socket → Station → OneLink
+ofSocket s σ = getLink (socketPlace s) σ
 
 -- ---- one link and a frame for it
 
@@ -113,10 +121,10 @@ received side σ f =
 
 -- the record of a socket, and the records with it changed
 abbrev pub linkAt : List Link → Socket → Link
-linkAt ls s = getD ls (s .0 - 1) noLink
+linkAt ls s = getD ls (socketPlace s) noLink
 
 abbrev pub withLink : List Link → Socket → Link → List Link
-withLink ls s l = set ls (s .0 - 1) l
+withLink ls s l = set ls (socketPlace s) l
 
 -- 11 a wrong argument, 14 a bad state, then the call's own step
 abbrev pub judged : Side → List Link → Bool → Answer × List Link → Answer × List Link

@@ -1,0 +1,173 @@
+-- The four idle programs (`specs/Idle.antt`), at a station of one open link.
+use Prim.Native.Nat.{ℕ, zero, suc}
+use native.Mathlib.Omega.{arith}
+use mathlib.Core.Bool.{Bool, true, false, _&&_}
+use mathlib.Core.List.{List, [], _∷_, List·Memᴰ, List·Memᴰ·head, List·Memᴰ·tail, List·Memᴰ·cases-cons, List·Memᴰ·not-nil, List·Memᴰ·eq-of-singleton}
+use mathlib.Core.Logic.{_≢_, _⊎_, inl, inr}
+use mathlib.Core.Option.{some}
+use mathlib.Core.Path.{_≡_, refl, sym, ap, _∙_}
+use lib.Dec.{ltb}
+use lib.ListN.{getD, replicate}
+use borrow.Author.Tests.{ltb-true}
+use Rattle.octets.specs.Numbers.{Octets}
+use Rattle.octets.specs.Cut.{piece, upTo}
+use Rattle.octets.specs.Told.{refused, answered}
+use Rattle.octets.proofs.Tests.{both-hold}
+use Rattle.octets.proofs.Tables.{other-told}
+use Rattle.fcs.specs.Fcs.{checkOctet, octetStep, bitStep}
+use Rattle.transactions.specs.Numbers.{isSocket}
+use Rattle.transactions.specs.declared.Socket.{Socket}
+use Rattle.pb_adv.specs.Frame.{segmentOctets}
+use Rattle.pb_adv_writing.specs.Writing.{headerOf, segmentFrame}
+use Rattle.links.specs.Marks.{isMarked, withMark}
+use Rattle.links.specs.Links.{findFrom, told}
+use Rattle.links.specs.Good.{good}
+use Rattle.links.specs.Station.{Station, socketPlace, getLink, linkAt}
+use Rattle.links.specs.Operations.{receiving, Receiver}
+use Rattle.links.specs.Demand3.{Message, Call, Ready, Premises, Right, First, Demand3}
+use Rattle.links.specs.Demand2.{Prepared, CutComes, GivenBack, Back}
+use Rattle.links.specs.Tables.{ReceivingTable}
+use Rattle.links.specs.Idle.{RefusesAll, AlwaysRepeats, StoresNothing, ServesFirst, IdlePrograms}
+use Rattle.links.specs.declared.Side.the-variants.{Provisioner}
+use Rattle.links.specs.declared.LinkState.the-variants as S
+use Rattle.links.specs.declared.LastDelivered.the-variants as L
+use Rattle.links.specs.declared.HalfReceived.the-variants as H
+use Rattle.links.specs.declared.Link.{Link}
+use Rattle.links.proofs.Sockets.{place-below}
+
+-- ---- one open link, and an area of zeros
+
+abbrev link : Link
+link = record { state = S.Open; id = 0; next = record { 0 = 0 }; outstanding = false; last = L.Nothing; half = H.Nothing }
+
+abbrev station : Station
+station = record { links = link ∷ []; area = replicate 1469 0 }
+
+abbrev first : Socket
+first = record { 0 = 1 }
+
+-- ---- a message of one octet, given back
+
+abbrev short : Message
+short = record { number = record { 0 = 0x80 }; octets = 1 ∷ [] }
+
+abbrev whole : List ℕ
+whole = segmentFrame 0 (short .number) (short .octets) 0
+
+prepared : Prepared Provisioner station first short
+unfolding good getLink
+prepared = record {
+  room = refl;
+  notBad = refl;
+  socket = refl;
+  ready = record { isOpen = refl; nothing = refl; awaited = record { notLast = refl }; number = refl; some-octets = omega arith; few-octets = omega arith };
+}
+
+comes : CutComes Provisioner station first short (receiving whole ∷ [])
+unfolding getLink upTo
+comes = record { before = []; since = []; split = refl; cut = λ f h. of f (List·Memᴰ·cases-cons h) }
+  where
+    of : (f : List ℕ) → (f ≡ whole) ⊎ List·Memᴰ f [] → List·Memᴰ (receiving f) (receiving whole ∷ [])
+    of f (inl e) = List·Memᴰ·head (ap receiving e)
+    of f (inr h) = absurd (List·Memᴰ·not-nil h)
+
+given-back : (receive : Receiver) → Back receive → GivenBack Provisioner station first short (receive Provisioner) (receiving whole ∷ [])
+unfolding getLink upTo
+given-back receive b = b Provisioner station first short prepared (receiving whole ∷ []) (inl (List·Memᴰ·head refl), tt) comes
+
+refuses-all : (receive : Receiver) → RefusesAll receive → Back receive → ⊥
+refuses-all receive h b =
+    let g = given-back receive b in
+    other-told _ _ refl (sym (h Provisioner _ (g .frame) .1) ∙ g .delivered)
+
+stores-nothing : (receive : Receiver) → StoresNothing receive → Back receive → ⊥
+unfolding getLink
+stores-nothing receive h b =
+    let g = given-back receive b in
+    let e : _≡_ {A = List ℕ} (0 ∷ []) (1 ∷ []) = rw (h Provisioner station whole) at (g .stands) in
+    let z : _≡_ {A = ℕ} 0 1 = cc in omega arith
+
+-- no area for no records is refused with 11
+abbrev wrong-area : Station
+wrong-area = record { links = []; area = 0 ∷ [] }
+
+always-repeats : (receive : Receiver) → AlwaysRepeats receive → ReceivingTable receive → ⊥
+always-repeats receive h t =
+    let e : some (refused 11) ≡ some (answered "repeat" []) = t Provisioner wrong-area [] (λ i. omega arith) .first ∙ ap some (h Provisioner wrong-area []) in
+    let q : refused 11 ≡ answered "repeat" [] = cc in
+    other-told _ _ refl q
+
+-- ---- a message of three segments
+
+abbrev long : Message
+long = record { number = record { 0 = 0x80 }; octets = replicate 44 0 }
+
+abbrev segment : ℕ → List ℕ
+segment k = segmentFrame 0 (long .number) (long .octets) k
+
+abbrev brings : ℕ → Call
+brings k = record { socket = first; frame = segment k }
+
+abbrev all-octets : List ℕ → Bool
+all-octets [] = true
+all-octets (x ∷ l) = ltb x 256 && all-octets l
+
+octets-all : (l : List ℕ) → all-octets l ≡ true → Octets l
+octets-all [] e i = omega arith
+octets-all (x ∷ l) e zero = ltb-true x 256 (both-hold {a = ltb x 256} {b = all-octets l} e .0)
+octets-all (x ∷ l) e (suc i) = octets-all l (both-hold {a = ltb x 256} {b = all-octets l} e .1) i
+
+premises : Premises station (λ _. long) Provisioner
+unfolding good
+premises = record { room = refl; notBad = refl; ready = ready }
+  where
+    ready : (s : Socket) → isSocket s 1 ≡ true → Ready Provisioner (linkAt (link ∷ []) s) long
+    ready s e =
+        let p : socketPlace s ≡ 0 = omega (arith, place-below s 1 e) in
+        rw p (record { isOpen = refl; nothing = refl; awaited = record { notLast = refl }; number = refl; some-octets = omega arith; few-octets = omega arith })
+
+-- the cut, by its three frames
+right-0 : Right station (λ _. long) (brings 0)
+unfolding upTo
+right-0 = record { socket = refl; segment = List·Memᴰ·head refl }
+
+right-1 : Right station (λ _. long) (brings 1)
+unfolding upTo
+right-1 = record { socket = refl; segment = List·Memᴰ·tail (List·Memᴰ·head refl) }
+
+right-2 : Right station (λ _. long) (brings 2)
+unfolding upTo
+right-2 = record { socket = refl; segment = List·Memᴰ·tail (List·Memᴰ·tail (List·Memᴰ·head refl)) }
+
+-- the sixth octet tells the frames apart
+not-among : (k a b : ℕ) → getD (segment k) 5 0 ≢ getD (segment a) 5 0 → getD (segment k) 5 0 ≢ getD (segment b) 5 0 → List·Memᴰ (segment k) (segment a ∷ segment b ∷ []) → ⊥
+not-among k a b p q h = of (List·Memᴰ·cases-cons h)
+  where
+    of : (segment k ≡ segment a) ⊎ List·Memᴰ (segment k) (segment b ∷ []) → ⊥
+    of (inl e) = p (ap (λ (l : List ℕ). getD l 5 0) e)
+    of (inr m) = q (ap (λ (l : List ℕ). getD l 5 0) (List·Memᴰ·eq-of-singleton m))
+
+-- the third segment completes it behind the other two, and not behind the first alone
+third-due : First station (λ _. long) (brings 0 ∷ brings 1 ∷ []) (brings 2)
+unfolding segmentFrame segmentOctets headerOf upTo
+third-due = (λ f h. h, λ h. not-among 2 0 1 (omega arith) (omega arith) (h (segment 2) (right-2 .segment)))
+
+third-early : First station (λ _. long) (brings 0 ∷ []) (brings 2) → ⊥
+unfolding segmentFrame segmentOctets headerOf
+third-early h = not-among 1 0 2 (omega arith) (omega arith) (h .0 (segment 1) (right-1 .segment))
+
+is-kept : (receive : Receiver) → ReceivingTable receive → told (receive Provisioner station (segment 0) .0) ≡ answered "kept" []
+unfolding good findFrom getLink segmentFrame segmentOctets headerOf piece checkOctet octetStep bitStep isMarked withMark
+is-kept receive t =
+    let e : some (answered "kept" []) ≡ some (told (receive Provisioner station (segment 0) .0)) = t Provisioner station (segment 0) (octets-all (segment 0) refl) .first in
+    cc
+
+serves-first : (receive : Receiver) → ServesFirst receive → ReceivingTable receive → Demand3 receive → ⊥
+serves-first receive h t d =
+    let stays = h Provisioner station (segment 0) (segment 1) (is-kept receive t) in
+    let all = d Provisioner station (λ _. long) premises (brings 0 ∷ brings 1 ∷ brings 2 ∷ []) (right-0, (right-1, (right-2, tt))) in
+    let two = d Provisioner station (λ _. long) premises (brings 0 ∷ brings 2 ∷ []) (right-0, (right-2, tt)) in
+    third-early (two .onlyThen (brings 0 ∷ []) (brings 2) [] refl _ (rw stays at (all .due (brings 0 ∷ brings 1 ∷ []) (brings 2) [] refl third-due)))
+
+pub idle-programs : IdlePrograms
+idle-programs = record { refuses-all = refuses-all; always-repeats = always-repeats; stores-nothing = stores-nothing; serves-first = serves-first }

@@ -1,0 +1,322 @@
+-- Document 01's receiving table and those of the local calls (`specs/Tables.antt`).
+use Prim.Native.Nat.{ℕ, _*_, _-_, _/_, _<_}
+use native.Mathlib.Omega.{arith}
+use mathlib.Core.Bool.{true, false, _&&_, _||_, cond, not, false≢true}
+use mathlib.Core.List.{List, [], _∷_, _++_}
+use mathlib.Core.Option.{some}
+use mathlib.Core.Path.{_≡_, refl, sym, ap}
+use lib.Dec.{leb, ltb, eqb}
+use lib.ListN.{length, getD, take}
+use borrow.Author.Tests.{eq-eqb, ne-eqb, ltb-true, ltb-false}
+use Rattle.octets.specs.Numbers.{Octets}
+use Rattle.octets.specs.Parts.{part, write, same}
+use Rattle.octets.specs.Cut.{piece}
+use Rattle.octets.specs.Tables.{Row, refusal, reply, firstOf}
+use Rattle.octets.proofs.Tests.{cases, both-hold}
+use Rattle.octets.proofs.Tables.{by-table}
+use Rattle.fcs.specs.Fcs.{checkOctet}
+use Rattle.transactions.specs.Numbers.{isSocket}
+use Rattle.transactions.specs.Segments.{isLength, segN, segmentPlace, segmentLength}
+use Rattle.pb_adv.specs.Frame.{linkId, numberOf, kindOf, highBits, parsed}
+use Rattle.pb_adv.specs.Tables.{isKind, isControl, isSegment, lengthIn, malformed, unknownOpcode}
+use Rattle.pb_adv.specs.declared.SegmentHeader.{SegmentHeader}
+use Rattle.pb_adv.specs.declared.SegmentHeader.the-variants.{Start, Continuation}
+use Rattle.pb_adv.specs.declared.Parsed.{Parsed}
+use Rattle.pb_adv.proofs.Tables.{IsFrame, start, acknowledgement, continuation, opens, acks, closes, Reads, no-frame, unknown, frame, reads}
+use Rattle.transactions.specs.declared.Socket.{Socket}
+use Rattle.links.specs.Marks.{isMarked, withMark, allMarked}
+use Rattle.links.specs.Links.{peer, sends, isLast, inUse, find, told}
+use Rattle.links.specs.Good.{goodAs, goodLink, good}
+use Rattle.links.specs.Segments.{OneLink, entered, offered, begun, onHalf, segmentStep}
+use Rattle.links.specs.Station.{Station, noLink, getLink, putLink, linkAt, isFound, isOpen, acknowledgementStep, ackStep, frameStep, atSocket, onFrame, received, localOpen, localSend, localClose}
+use Rattle.links.specs.Tables.{linkFound, isOpening, notOpen, wrongDirection, notOutstanding, checkIn, isLastDelivered, messageOf, notBegun, isUnfit, otherOctets, isLastMissing, otherCheck, mismatches, wrongCheck, isComplete, isRepeat, receivingRows, ReceivingTable, leaves, ReceivingLeaves, openRows, sendRows, closeRows, LocalTables}
+use Rattle.links.specs.declared.Side.{Side}
+use Rattle.links.specs.declared.Side.the-variants.{Provisioner, Device}
+use Rattle.links.specs.declared.LinkState.{LinkState}
+use Rattle.links.specs.declared.LinkState.the-variants as S
+use Rattle.links.specs.declared.HalfMessage.{HalfMessage}
+use Rattle.links.specs.declared.HalfReceived.{HalfReceived}
+use Rattle.links.specs.declared.HalfReceived.the-variants as H
+use Rattle.links.specs.declared.Link.{Link}
+use Rattle.links.specs.declared.Found.{Found}
+use Rattle.links.specs.declared.Found.the-variants.{At, Nowhere}
+use Rattle.links.specs.declared.Refusal.the-variants as R
+use Rattle.links.specs.declared.Answer.the-variants as A
+use Rattle.links.proofs.Marks.{none-marked}
+use Rattle.links.proofs.Lens.{put-get, found-at, good-get}
+use Rattle.links.proofs.Local.{open-calls, send-calls, close-calls, written-by}
+use Rattle.links.proofs.Leaves.{frame-leaves}
+use Rattle.links.proofs.Keep.{good-as}
+
+-- ---- the halves of the numbers
+
+lower-half : (n : ℕ) → eqb (n / 128) 0 ≡ not (ltb 127 n)
+lower-half n = cases (ltb 127 n)
+    (λ e. rw (e, ne-eqb (n / 128) 0 (omega (arith, ltb-true 127 n e))))
+    (λ e. rw (e, eq-eqb (n / 128) 0 (omega (arith, ltb-false 127 n e))))
+
+upper-half : (n : ℕ) → n < 256 → eqb (n / 128) 1 ≡ not (ltb n 128)
+upper-half n h = cases (ltb n 128)
+    (λ e. rw (e, ne-eqb (n / 128) 1 (omega (arith, ltb-true n 128 e))))
+    (λ e. rw (e, eq-eqb (n / 128) 1 (omega (arith, ltb-false n 128 e))))
+
+-- ---- the rows by parts
+
+-- of a segment at its link, by what is half-received
+abbrev segmentRows : OneLink → HalfReceived → List ℕ → List Row
+segmentRows x half f =
+    let h = messageOf half f in
+    reply "acknowledge again" [] (isLastDelivered (x .link .last) f)
+    ∷ refusal 6 (notBegun half f)
+    ∷ refusal 7 (mismatches x half h f)
+    ∷ refusal 8 (wrongCheck x h f)
+    ∷ reply "delivered" (h .length ∷ h .number .0 ∷ []) (isComplete x h f)
+    ∷ reply "repeat" [] (isRepeat h f)
+    ∷ reply "kept" [] (isSegment f)
+    ∷ []
+
+-- of a frame of another kind
+abbrev otherRows : LinkState → List ℕ → List Row
+otherRows state f =
+    reply "acknowledged" [] (isKind 1 f)
+    ∷ reply "opened" [] (isOpening state && isControl 1 f)
+    ∷ reply "already" [] (isControl 1 f)
+    ∷ reply "closed" (getD f 6 0 ∷ []) (isControl 2 f)
+    ∷ []
+
+-- of a frame at its link, by the link's state
+abbrev linkRows : Side → OneLink → LinkState → List ℕ → List Row
+linkRows side x state f =
+    refusal 4 (notOpen state f)
+    ∷ refusal 5 (wrongDirection side f)
+    ∷ refusal 12 (notOutstanding (x .link) f)
+    ∷ (segmentRows x (x .link .half) f ++ otherRows state f)
+
+-- ---- a segment at its link
+
+-- the rows from 8 on of segment k
+abbrev enteredRows : OneLink → HalfMessage → ℕ → List ℕ → List Row → List Row
+enteredRows x h k d rest =
+    refusal 8 (isLastMissing x h k d && otherCheck x h k d)
+    ∷ reply "delivered" (h .length ∷ h .number .0 ∷ []) (isLastMissing x h k d)
+    ∷ reply "repeat" [] (isMarked (h .marks) k)
+    ∷ reply "kept" [] true
+    ∷ rest
+
+module _ (x : OneLink) (h : HalfMessage) (k : ℕ) (d : List ℕ) (rest : List Row) where
+  entered-row : isMarked (h .marks) k ≡ false → firstOf (enteredRows x h k d rest) ≡ some (told (entered x h k d .0))
+  unfolding entered
+  entered-row missing =
+      rw missing (cases (allMarked (segN (h .length)) (withMark (h .marks) k))
+      (λ e. rw e (cases (eqb (checkOctet (take (h .length) (write (x .part) (segmentPlace k) d))) (h .check)) (λ c. rw c) (λ c. rw c)))
+      (λ e. rw e))
+
+  offered-row : firstOf (refusal 7 (isUnfit x h k d || otherOctets x h k d) ∷ enteredRows x h k d rest) ≡ some (told (offered x h k d .0))
+  unfolding offered
+  offered-row =
+      cases (leb k (segN (h .length)) && eqb (length d) (segmentLength (h .length) k))
+      (λ e. rw e (cases (isMarked (h .marks) k)
+      (λ u. rw u (cases (same (piece segmentPlace (h .length) (x .part) k) d) (λ v. rw v) (λ v. rw v)))
+      (λ u. let w = entered-row u in rw u (rw u at w))))
+      (λ e. rw e)
+
+module _ (x : OneLink) (f : List ℕ) (rest : List Row) (awaited : isLast (x .link .last) (numberOf f) ≡ false) where
+  start-rows : kindOf f ≡ 0 → (half : HalfReceived)
+      → firstOf (segmentRows x half f ++ rest) ≡ some (told (onHalf x half (numberOf f) (Start (lengthIn f) (checkIn f)) (part f 9 (length f - 9)) .0))
+  start-rows k H.Nothing = rw (awaited, k) (entered-row x (begun (numberOf f) (lengthIn f) (checkIn f)) 0 (part f 9 (length f - 9)) rest (none-marked 0))
+  start-rows k (H.Message h) =
+      cases (eqb (h .number .0) (numberOf f .0))
+      (λ e. rw (awaited, e, k) (cases (eqb (h .length) (lengthIn f) && eqb (h .check) (checkIn f))
+      (λ u. rw u (offered-row x h 0 (part f 9 (length f - 9)) rest)) (λ u. rw u)))
+      (λ e. rw (awaited, e, k) (entered-row x (begun (numberOf f) (lengthIn f) (checkIn f)) 0 (part f 9 (length f - 9)) rest (none-marked 0)))
+
+  continuation-rows : kindOf f ≡ 2 → (half : HalfReceived)
+      → firstOf (segmentRows x half f ++ rest) ≡ some (told (onHalf x half (numberOf f) (Continuation (highBits f)) (part f 6 (length f - 6)) .0))
+  continuation-rows k H.Nothing = rw (awaited, k)
+  continuation-rows k (H.Message h) =
+      cases (eqb (h .number .0) (numberOf f .0))
+      (λ e. rw (awaited, e, k) (offered-row x h (highBits f) (part f 6 (length f - 6)) rest)) (λ e. rw (awaited, e, k))
+
+-- ---- a frame at its link
+
+module _ (f : List ℕ) (o : Octets f) where
+  segment-direction : isSegment f ≡ true → isKind 1 f ≡ false → isKind 3 f ≡ false → (side : Side) → wrongDirection side f ≡ not (sends (peer side) (numberOf f))
+  segment-direction s a c Provisioner =
+      rw (s, a, c, upper-half (numberOf f .0) (o 4)) (cases (ltb (numberOf f .0) 128) (λ e. rw e) (λ e. rw e))
+  segment-direction s a c Device =
+      rw (s, a, c, lower-half (numberOf f .0)) (cases (ltb 127 (numberOf f .0)) (λ e. rw e) (λ e. rw e))
+
+  acknowledgement-direction : kindOf f ≡ 1 → (side : Side) → wrongDirection side f ≡ not (sends side (numberOf f))
+  acknowledgement-direction k Provisioner =
+      rw (k, lower-half (numberOf f .0)) (cases (ltb 127 (numberOf f .0)) (λ e. rw e) (λ e. rw e))
+  acknowledgement-direction k Device =
+      rw (k, upper-half (numberOf f .0) (o 4)) (cases (ltb (numberOf f .0) 128) (λ e. rw e) (λ e. rw e))
+
+  module _ (side : Side) (x : OneLink) where
+    -- a segment on an open link
+    open-segment : isSegment f ≡ true → isKind 1 f ≡ false → isKind 3 f ≡ false → (header : SegmentHeader) (d : List ℕ)
+        → (isLast (x .link .last) (numberOf f) ≡ false
+        → firstOf (segmentRows x (x .link .half) f ++ otherRows S.Open f) ≡ some (told (onHalf x (x .link .half) (numberOf f) header d .0)))
+        → firstOf (linkRows side x S.Open f) ≡ some (told (cond (sends (peer side) (numberOf f)) (segmentStep x (numberOf f) header d) (A.Refused R.WrongDirection, x) .0))
+    unfolding segmentStep
+    open-segment s a c header d rows =
+        rw (segment-direction s a c side) (cases (sends (peer side) (numberOf f))
+        (λ q. rw (q, a) (cases (isLast (x .link .last) (numberOf f)) (λ l. rw (s, l)) (λ l. let w = rows l in rw l (rw (a, l) at w))))
+        (λ q. rw q))
+
+    open-acknowledgement : kindOf f ≡ 1
+        → firstOf (linkRows side x S.Open f) ≡ some (told (cond (sends side (numberOf f)) (acknowledgementStep x (numberOf f)) (A.Refused R.WrongDirection, x) .0))
+    unfolding acknowledgementStep
+    open-acknowledgement k =
+        rw (acknowledgement-direction k side) (cases (sends side (numberOf f))
+        (λ q. rw (q, k) (cases (x .link .outstanding && eqb (x .link .next .0) (numberOf f .0)) (λ v. rw v) (λ v. rw v)))
+        (λ q. rw q))
+
+    open-ack : kindOf f ≡ 3 → highBits f ≡ 1 → firstOf (linkRows side x S.Open f) ≡ some (told (ackStep side x .0))
+    open-ack k h = of side
+      where
+        of : (side : Side) → firstOf (linkRows side x S.Open f) ≡ some (told (ackStep side x .0))
+        of Provisioner = rw (k, h)
+        of Device = rw (k, h)
+
+    -- no other end has a link that is opening
+    opening-ack : goodAs side S.Opening (x .link) ≡ true → kindOf f ≡ 3 → highBits f ≡ 1 → firstOf (linkRows side x S.Opening f) ≡ some (told A.Opened)
+    opening-ack good k h = of side good
+      where
+        of : (side : Side) → goodAs side S.Opening (x .link) ≡ true → firstOf (linkRows side x S.Opening f) ≡ some (told A.Opened)
+        of Provisioner g = rw (k, h)
+        of Device g = absurd (false≢true g)
+
+    open-open : kindOf f ≡ 3 → highBits f ≡ 0 → firstOf (linkRows side x S.Open f) ≡ some (told (A.Refused R.WrongDirection))
+    open-open k h = of side
+      where
+        of : (side : Side) → firstOf (linkRows side x S.Open f) ≡ some (told (A.Refused R.WrongDirection))
+        of Provisioner = rw (k, h)
+        of Device = rw (k, h)
+
+    close-any : (state : LinkState) → kindOf f ≡ 3 → highBits f ≡ 2 → firstOf (linkRows side x state f) ≡ some (told (A.Closed (getD f 6 0)))
+    close-any state k h = of side state
+      where
+        of : (side : Side) (state : LinkState) → firstOf (linkRows side x state f) ≡ some (told (A.Closed (getD f 6 0)))
+        of Provisioner S.Free = rw (k, h)
+        of Provisioner S.Opening = rw (k, h)
+        of Provisioner S.Open = rw (k, h)
+        of Device S.Free = rw (k, h)
+        of Device S.Opening = rw (k, h)
+        of Device S.Open = rw (k, h)
+
+module _ (side : Side) (x : OneLink) (linkGood : goodLink side (x .link) ≡ true) (f : List ℕ) (o : Octets f) where
+  at-state : (state : LinkState) → x .link .state ≡ state → inUse state ≡ true → (p : Parsed) → IsFrame f p
+      → firstOf (linkRows side x state f) ≡ some (told (frameStep side x state f p .0))
+  unfolding frameStep
+  at-state S.Free e u p r = absurd (false≢true u)
+  at-state S.Opening e u p (start k s) = rw k
+  at-state S.Opening e u p (acknowledgement k) = rw k
+  at-state S.Opening e u p (continuation k h) = rw k
+  at-state S.Opening e u p (opens k h) = rw (k, h)
+  at-state S.Opening e u p (acks k h) = opening-ack f o side x (good-as side (x .link) e linkGood) k h
+  at-state S.Opening e u p (closes k h) = close-any f o side x S.Opening k h
+  at-state S.Open e u p (start k s) = open-segment f o side x (rw k) (rw k) (rw k) _ _ (λ l. start-rows x f (otherRows S.Open f) l k (x .link .half))
+  at-state S.Open e u p (acknowledgement k) = open-acknowledgement f o side x k
+  at-state S.Open e u p (continuation k h) = open-segment f o side x (rw k) (rw k) (rw k) _ _ (λ l. continuation-rows x f (otherRows S.Open f) l k (x .link .half))
+  at-state S.Open e u p (opens k h) = open-open f o side x k h
+  at-state S.Open e u p (acks k h) = open-ack f o side x k h
+  at-state S.Open e u p (closes k h) = close-any f o side x S.Open k h
+
+-- ---- the call
+
+-- a frame goes to the record of its Link ID
+goes : (side : Side) (σ : Station) (f : List ℕ) (p : Parsed) → IsFrame f p → onFrame side σ f p ≡ atSocket side σ (find (σ .links) (linkId f)) f p
+goes side σ f p (start k s) = refl
+goes side σ f p (acknowledgement k) = refl
+goes side σ f p (continuation k h) = refl
+goes side σ f p (opens k h) = refl
+goes side σ f p (acks k h) = refl
+goes side σ f p (closes k h) = refl
+
+module _ (side : Side) (σ : Station) (f : List ℕ) (o : Octets f) where
+  module _ (stateGood : good side (σ .links) ≡ true) where
+    -- the rows from 3 on, by the record that was found
+    abbrev foundRows : Found → List Row
+    foundRows found = refusal 3 (not (isFound found)) ∷ linkRows side (linkFound σ found) (linkFound σ found .link .state) f
+
+    at-found : (found : Found) → find (σ .links) (linkId f) ≡ found → (p : Parsed) → IsFrame f p → firstOf (foundRows found) ≡ some (told (atSocket side σ found f p .0))
+    unfolding getLink
+    at-found Nowhere e p r = refl
+    at-found (At s) e p r =
+        let w = found-at (σ .links) (linkId f) s e in
+        at-state side (getLink s σ) (good-get side σ s stateGood (w .0)) f o (getLink s σ .link .state) refl
+        (both-hold {a = inUse (getD (σ .links) s noLink .state)} {b = eqb (getD (σ .links) s noLink .id) (linkId f)} (w .1) .0) p r
+
+    by-reads : (p : Parsed) → Reads f p
+        → firstOf (refusal 1 (malformed f) ∷ refusal 2 (unknownOpcode f) ∷ foundRows (find (σ .links) (linkId f))) ≡ some (told (onFrame side σ f p .0))
+    by-reads p (no-frame m) = rw m
+    by-reads p (unknown m n) = rw (m, n)
+    by-reads p (frame m n r) = rw (m, n, goes side σ f p r) (at-found (find (σ .links) (linkId f)) refl p r)
+
+  first-row : firstOf (receivingRows side σ f) ≡ some (told (received side σ f .0))
+  unfolding received
+  first-row =
+      cases (eqb (length (σ .area)) (1469 * length (σ .links)))
+      (λ e. rw e (cases (good side (σ .links)) (λ g. rw g (by-reads g (parsed f) (reads f))) (λ g. rw g)))
+      (λ e. rw e)
+
+-- THE RECEIVING TABLE
+pub receiving-table : ReceivingTable received
+receiving-table side σ f o = by-table (told (received side σ f .0)) (receivingRows side σ f) refl (first-row side σ f o)
+
+-- ---- what it leaves
+
+module _ (side : Side) (σ : Station) (f : List ℕ) (sized : length (σ .area) ≡ 1469 * length (σ .links)) (s : ℕ) (at : find (σ .links) (linkId f) ≡ At s) where
+  unchanged : σ ≡ putLink s (getLink s σ) σ
+  unchanged = sym (put-get s σ (omega (arith, found-at (σ .links) (linkId f) s at .0)))
+
+  leaves-by : (p : Parsed) → Reads f p → onFrame side σ f p .1 ≡ putLink s (leaves side (getLink s σ) f (onFrame side σ f p .0)) σ
+  leaves-by p (no-frame m) = unchanged
+  leaves-by p (unknown m n) = unchanged
+  leaves-by p (frame m n r) = rw (goes side σ f p r, at) (ap (λ (y : OneLink). putLink s y σ) (frame-leaves side (getLink s σ) f (getLink s σ .link .state) p r))
+
+pub receiving-leaves : ReceivingLeaves
+unfolding received
+receiving-leaves side σ f sized stateGood s at =
+    rw (eq-eqb (length (σ .area)) (1469 * length (σ .links)) sized, stateGood) (leaves-by side σ f sized s at (parsed f) (reads f))
+
+-- ---- the local calls
+
+module _ (side : Side) (ls : List Link) (s : Socket) where
+  open-first : (id : ℕ) → firstOf (openRows side ls s id) ≡ some (told (localOpen side ls s id .0))
+  unfolding localOpen
+  open-first id =
+      cases (isSocket s (length ls))
+      (λ r. rw r (cases (good side ls)
+      (λ g. rw g (cases (inUse (linkAt ls s .state)) (λ e. rw e) (λ e. rw e (cases (isFound (find ls id)) (λ u. rw u) (λ u. rw u)))))
+      (λ g. rw g)))
+      (λ r. rw r)
+
+  send-first : (n : ℕ) → firstOf (sendRows side ls s n) ≡ some (told (localSend side ls s n .0))
+  unfolding localSend
+  send-first n =
+      cases (isSocket s (length ls))
+      (λ r. rw r (cases (isLength n)
+      (λ r. rw r (cases (good side ls)
+      (λ g. rw g (cases (isOpen (linkAt ls s .state)) (λ e. rw e (cases (linkAt ls s .outstanding) (λ u. rw u) (λ u. rw u))) (λ e. rw e)))
+      (λ g. rw g)))
+      (λ r. rw r)))
+      (λ r. rw r)
+
+  close-first : firstOf (closeRows side ls s) ≡ some (told (localClose side ls s .0))
+  unfolding localClose
+  close-first =
+      cases (isSocket s (length ls))
+      (λ r. rw r (cases (good side ls) (λ g. rw g (cases (inUse (linkAt ls s .state)) (λ e. rw e) (λ e. rw e))) (λ g. rw g)))
+      (λ r. rw r)
+
+pub local-tables : (side : Side) (ls : List Link) (s : Socket) → LocalTables side ls s
+local-tables side ls s = record {
+  opening = λ id. by-table (told (localOpen side ls s id .0)) (openRows side ls s id) refl (open-first side ls s id);
+  sending = λ n. by-table (told (localSend side ls s n .0)) (sendRows side ls s n) refl (send-first side ls s n);
+  closing = by-table (told (localClose side ls s .0)) (closeRows side ls s) refl (close-first side ls s);
+  opened = λ id. written-by side ls s (open-calls side ls s id) "done" [];
+  sent = λ n. written-by side ls s (send-calls side ls s n) "sending";
+  closed = written-by side ls s (close-calls side ls s) "done" [];
+}

@@ -1,0 +1,272 @@
+-- DOCUMENT 01'S TABLE of a receiving call: each answer with what it is given for, in the order of the checks; and the tables of the local calls. Rows
+-- speak of the frame's octets and of the records, not of the definitions of the rules. The proofs are `proofs/Tables.antt`.
+use Prim.Native.Nat.{ℕ, _*_, _-_}
+use mathlib.Core.Bool.{Bool, true, false, _&&_, _||_, cond, not}
+use mathlib.Core.List.{List, [], _∷_}
+use mathlib.Core.Path.{_≡_}
+use lib.Dec.{leb, ltb, eqb}
+use lib.ListN.{length, getD, take}
+use Rattle.octets.specs.Numbers.{Octets}
+use Rattle.octets.specs.Parts.{part, write, same}
+use Rattle.octets.specs.Cut.{piece}
+use Rattle.octets.specs.Told.{answered}
+use Rattle.octets.specs.Tables.{Row, refusal, reply, ByTable}
+use Rattle.fcs.specs.Fcs.{checkOctet}
+use Rattle.transactions.specs.Numbers.{numberAfter}
+use Rattle.transactions.specs.Segments.{segN, segmentPlace, segmentLength}
+use Rattle.transactions.specs.declared.Socket.{Socket}
+use Rattle.pb_adv.specs.Frame.{linkId, numberOf, highBits}
+use Rattle.pb_adv.specs.Tables.{isKind, isControl, isSegment, lengthIn, malformed, unknownOpcode}
+use Rattle.links.specs.Marks.{isMarked, withMark, allMarked}
+use Rattle.links.specs.Links.{isLast, blank, blankWith, withState, withReceived, withSending, inUse, find, refusalNumber, told}
+use Rattle.links.specs.Good.{good}
+use Rattle.links.specs.Segments.{OneLink, marked, begun}
+use Rattle.links.specs.Station.{Station, getLink, putLink, setLink, received, linkAt, withLink, isFound, isOpen, localOpen, localSend, localClose}
+use Rattle.links.specs.Operations.{Receiver}
+use Rattle.links.specs.declared.Side.{Side}
+use Rattle.links.specs.declared.Side.the-variants.{Provisioner, Device}
+use Rattle.links.specs.declared.LinkState.{LinkState}
+use Rattle.links.specs.declared.LinkState.the-variants as S
+use Rattle.links.specs.declared.LastDelivered.{LastDelivered}
+use Rattle.links.specs.declared.LastDelivered.the-variants as L
+use Rattle.links.specs.declared.HalfMessage.{HalfMessage}
+use Rattle.links.specs.declared.HalfReceived.{HalfReceived}
+use Rattle.links.specs.declared.HalfReceived.the-variants as H
+use Rattle.links.specs.declared.Link.{Link}
+use Rattle.links.specs.declared.Answer.{Answer}
+use Rattle.links.specs.declared.Answer.the-variants as A
+use Rattle.links.specs.declared.Found.{Found}
+use Rattle.links.specs.declared.Found.the-variants.{At, Nowhere}
+
+-- ---- 11, 14 and 3
+
+-- "area length": 1,469 octets for each record
+abbrev pub wrongArea : Station → Bool
+wrongArea σ = not (eqb (length (σ .area)) (1469 * length (σ .links)))
+
+-- "the state passed in is bad"
+abbrev pub badState : Side → List Link → Bool
+badState side ls = not (good side ls)
+
+-- "Link ID of no record in use"
+abbrev pub unknownLink : Station → List ℕ → Bool
+unknownLink σ f = not (isFound (find (σ .links) (linkId f)))
+
+-- the link that a frame is for
+abbrev pub linkFound : Station → Found → OneLink
+linkFound σ (At s) = getLink s σ
+linkFound σ Nowhere = getLink (length (σ .links)) σ
+
+-- ---- 4, 5 and 12
+
+abbrev pub isOpening : LinkState → Bool
+isOpening S.Free = false
+isOpening S.Opening = true
+isOpening S.Open = false
+
+-- "link opening, and the frame is neither Ack nor Close"
+abbrev pub notOpen : LinkState → List ℕ → Bool
+notOpen state f = isOpening state && not (isControl 1 f || isControl 2 f)
+
+-- "a segment below 0x80, an acknowledgement above 0x7F, or an Open"; at the device's end the halves change places, and an Ack is refused too
+abbrev pub wrongDirection : Side → List ℕ → Bool
+wrongDirection Provisioner f = (isSegment f && ltb (numberOf f .0) 0x80) || ((isKind 1 f && ltb 0x7F (numberOf f .0)) || isControl 0 f)
+wrongDirection Device f = (isSegment f && ltb 0x7F (numberOf f .0)) || ((isKind 1 f && ltb (numberOf f .0) 0x80) || (isControl 0 f || isControl 1 f))
+
+-- "acknowledgement of a number not outstanding"
+abbrev pub notOutstanding : Link → List ℕ → Bool
+notOutstanding l f = isKind 1 f && not (l .outstanding && eqb (l .next .0) (numberOf f .0))
+
+-- ---- what a segment carries
+
+-- its number in the message: 0 in a Start, the high bits in a Continuation
+abbrev pub indexIn : List ℕ → ℕ
+indexIn f = cond (isKind 0 f) 0 (highBits f)
+
+-- its octets, behind the header
+abbrev pub octetsIn : List ℕ → List ℕ
+octetsIn f = cond (isKind 0 f) (part f 9 (length f - 9)) (part f 6 (length f - 6))
+
+-- the check octet in a Start
+abbrev pub checkIn : List ℕ → ℕ
+checkIn f = getD f 8 0
+
+-- ---- "acknowledge again", 6, 7, 8, and what a good segment answers
+
+-- "a segment with the link's last delivered number"
+abbrev pub isLastDelivered : LastDelivered → List ℕ → Bool
+isLastDelivered last f = isSegment f && isLast last (numberOf f)
+
+-- there is a "half-received message of its number"
+abbrev pub hasNumber : HalfReceived → List ℕ → Bool
+hasNumber H.Nothing f = false
+hasNumber (H.Message h) f = eqb (h .number .0) (numberOf f .0)
+
+-- the message that a segment is of: the half-received one of its number, or the one that a Start begins
+abbrev pub messageOf : HalfReceived → List ℕ → HalfMessage
+messageOf H.Nothing f = begun (numberOf f) (lengthIn f) (checkIn f)
+messageOf (H.Message h) f = cond (hasNumber (H.Message h) f) h (begun (numberOf f) (lengthIn f) (checkIn f))
+
+-- "Continuation with no half-received message of its number"
+abbrev pub notBegun : HalfReceived → List ℕ → Bool
+notBegun half f = isKind 2 f && not (hasNumber half f)
+
+-- "other L, check" in a Start
+abbrev pub otherStart : HalfMessage → List ℕ → Bool
+otherStart h f = isKind 0 f && not (eqb (h .length) (lengthIn f) && eqb (h .check) (checkIn f))
+
+-- segment k with octets d, of a message of which h says what is in
+module _ (x : OneLink) (h : HalfMessage) (k : ℕ) (d : List ℕ) where
+  -- "segment above SegN; wrong segment length"
+  abbrev pub isUnfit : Bool
+  isUnfit = not (leb k (segN (h .length)) && eqb (length d) (segmentLength (h .length) k))
+
+  -- other "octets in a repeat": unlike those at the segment's place
+  abbrev pub otherOctets : Bool
+  otherOctets = isMarked (h .marks) k && not (same (piece segmentPlace (h .length) (x .part) k) d)
+
+  -- "the last missing segment is in"
+  abbrev pub isLastMissing : Bool
+  isLastMissing = not (isMarked (h .marks) k) && allMarked (segN (h .length)) (withMark (h .marks) k)
+
+  -- "the check octet differs", over the message with the segment at its place
+  abbrev pub otherCheck : Bool
+  otherCheck = not (eqb (checkOctet (take (h .length) (write (x .part) (segmentPlace k) d))) (h .check))
+
+-- "same number, but other L, check or octets in a repeat; segment above SegN; wrong segment length"
+abbrev pub mismatches : OneLink → HalfReceived → HalfMessage → List ℕ → Bool
+mismatches x half h f =
+    isSegment f && (hasNumber half f && (otherStart h f || (isUnfit x h (indexIn f) (octetsIn f) || otherOctets x h (indexIn f) (octetsIn f))))
+
+-- "the last missing segment is in and the check octet differs"
+abbrev pub wrongCheck : OneLink → HalfMessage → List ℕ → Bool
+wrongCheck x h f = isSegment f && (isLastMissing x h (indexIn f) (octetsIn f) && otherCheck x h (indexIn f) (octetsIn f))
+
+-- "a message complete and checked"
+abbrev pub isComplete : OneLink → HalfMessage → List ℕ → Bool
+isComplete x h f = isSegment f && isLastMissing x h (indexIn f) (octetsIn f)
+
+-- "a repeat with equal octets"
+abbrev pub isRepeat : HalfMessage → List ℕ → Bool
+isRepeat h f = isSegment f && isMarked (h .marks) (indexIn f)
+
+-- ---- THE TABLE
+
+abbrev pub receivingRows : Side → Station → List ℕ → List Row
+receivingRows side σ f =
+    let x = linkFound σ (find (σ .links) (linkId f)) in
+    let l = x .link in
+    let h = messageOf (l .half) f in
+    refusal 11 (wrongArea σ)
+    ∷ refusal 14 (badState side (σ .links))
+    ∷ refusal 1 (malformed f)
+    ∷ refusal 2 (unknownOpcode f)
+    ∷ refusal 3 (unknownLink σ f)
+    ∷ refusal 4 (notOpen (l .state) f)
+    ∷ refusal 5 (wrongDirection side f)
+    ∷ refusal 12 (notOutstanding l f)
+    -- "After 5 a segment with the link's last delivered number answers 'acknowledge again' and changes nothing, whatever it carries."
+    ∷ reply "acknowledge again" [] (isLastDelivered (l .last) f)
+    ∷ refusal 6 (notBegun (l .half) f)
+    ∷ refusal 7 (mismatches x (l .half) h f)
+    ∷ refusal 8 (wrongCheck x h f)
+    -- "A message complete and checked answers 'delivered' with length and number", "a repeat with equal octets answers 'repeat'", "a new segment that
+    -- leaves others missing answers 'kept'"
+    ∷ reply "delivered" (h .length ∷ h .number .0 ∷ []) (isComplete x h f)
+    ∷ reply "repeat" [] (isRepeat h f)
+    ∷ reply "kept" [] (isSegment f)
+    -- "An awaited acknowledgement .. answers 'acknowledged'."
+    ∷ reply "acknowledged" [] (isKind 1 f)
+    -- "Ack opens an opening link ('opened'), and on an open one answers 'already'. Close frees the record in either state and gives the reason."
+    ∷ reply "opened" [] (isOpening (l .state) && isControl 1 f)
+    ∷ reply "already" [] (isControl 1 f)
+    ∷ reply "closed" (getD f 6 0 ∷ []) (isControl 2 f)
+    ∷ []
+
+-- any octets, on any call; stated of any receiver, and document 01's rules, `received`, meet it
+abbrev pub ReceivingTable : Receiver → Type 0
+ReceivingTable receive = (side : Side) (σ : Station) (f : List ℕ) → Octets f → ByTable (told (receive side σ f .0)) (receivingRows side σ f)
+
+-- ---- WHAT EACH ANSWER LEAVES of the link that the frame is for; no other link and no other part of the area changes
+
+-- segment k with octets d, of a message of which h says what is in
+module _ (side : Side) (x : OneLink) (h : HalfMessage) (k : ℕ) (d : List ℕ) where
+  -- the record, with its segment written at "place 20 + 23(k - 1)", segment 0 "to the start of the socket's part"
+  abbrev pub withSegment : Link → OneLink
+  withSegment l = record { link = l; part = write (x .part) (segmentPlace k) d }
+
+  abbrev pub leavesBy : Answer → OneLink
+  -- "Refusal 8 clears it too, the octets, the last segment's among them, stay written, and the last delivered number stays. Every other refusal
+  -- changes nothing."
+  leavesBy (A.Refused r) = cond (eqb (refusalNumber r) 8) (withSegment (withReceived (x .link) (x .link .last) H.Nothing)) x
+  leavesBy A.AcknowledgeAgain = x
+  leavesBy A.Kept = withSegment (withReceived (x .link) (x .link .last) (H.Message (marked h k)))
+  leavesBy A.Repeat = x
+  -- "the half-received record is cleared"; the number is the last delivered
+  leavesBy (A.Delivered n t) = withSegment (withReceived (x .link) (L.Number t) H.Nothing)
+  leavesBy A.Opened = setLink x (withState (x .link) S.Open)
+  leavesBy A.Already = x
+  leavesBy (A.Closed reason) = setLink x (blank side)
+  -- it "clears the outstanding mark, steps the number"
+  leavesBy A.Acknowledged = setLink x (withSending (x .link) (numberAfter (x .link .next)) false)
+  -- answers of the local calls
+  leavesBy (A.Sending t n) = x
+  leavesBy A.Done = x
+
+abbrev pub leaves : Side → OneLink → List ℕ → Answer → OneLink
+leaves side x f a = leavesBy side x (messageOf (x .link .half) f) (indexIn f) (octetsIn f) a
+
+-- past 11 and 14
+abbrev pub ReceivingLeaves : Type 0
+ReceivingLeaves =
+    (side : Side) (σ : Station) (f : List ℕ) → length (σ .area) ≡ 1469 * length (σ .links) → good side (σ .links) ≡ true
+    → (s : ℕ) → find (σ .links) (linkId f) ≡ At s → received side σ f .1 ≡ putLink s (leaves side (getLink s σ) f (received side σ f .0)) σ
+
+-- ---- the local calls
+
+-- "socket": not 1 to the number of records
+abbrev pub wrongSocket : List Link → Socket → Bool
+wrongSocket ls s = not (leb 1 (s .0) && leb (s .0) (length ls))
+
+-- "message .. length": not 1 to 1,469
+abbrev pub wrongLength : ℕ → Bool
+wrongLength n = not (leb 1 n && leb n 1469)
+
+-- "Open: 11, then 9 socket in use, then 10 Link ID in use"
+abbrev pub openRows : Side → List Link → Socket → ℕ → List Row
+openRows side ls s id =
+    refusal 11 (wrongSocket ls s)
+    ∷ refusal 14 (badState side ls)
+    ∷ refusal 9 (inUse (linkAt ls s .state))
+    ∷ refusal 10 (isFound (find ls id))
+    ∷ reply "done" [] true
+    ∷ []
+
+-- "Send: 11, 4 (not open), 13 (one outstanding)", of a message of n octets; "it .. gives the number and SegN"
+abbrev pub sendRows : Side → List Link → Socket → ℕ → List Row
+sendRows side ls s n =
+    refusal 11 (wrongSocket ls s || wrongLength n)
+    ∷ refusal 14 (badState side ls)
+    ∷ refusal 4 (not (isOpen (linkAt ls s .state)))
+    ∷ refusal 13 (linkAt ls s .outstanding)
+    ∷ reply "sending" (linkAt ls s .next .0 ∷ segN n ∷ []) true
+    ∷ []
+
+-- "Close: 11, 4 (free)"
+abbrev pub closeRows : Side → List Link → Socket → List Row
+closeRows side ls s =
+    refusal 11 (wrongSocket ls s)
+    ∷ refusal 14 (badState side ls)
+    ∷ refusal 4 (not (inUse (linkAt ls s .state)))
+    ∷ reply "done" [] true
+    ∷ []
+
+pub record LocalTables (side : Side) (ls : List Link) (s : Socket) : Type 0 where
+  pub opening : (id : ℕ) → ByTable (told (localOpen side ls s id .0)) (openRows side ls s id)
+  pub sending : (n : ℕ) → ByTable (told (localSend side ls s n .0)) (sendRows side ls s n)
+  pub closing : ByTable (told (localClose side ls s .0)) (closeRows side ls s)
+  -- an Open leaves an opening record, a Send "sets the mark", a Close "frees the record"
+  pub opened : (id : ℕ) → told (localOpen side ls s id .0) ≡ answered "done" [] → localOpen side ls s id .1 ≡ withLink ls s (blankWith side S.Opening id)
+  pub sent : (n : ℕ) (values : List ℕ) → told (localSend side ls s n .0) ≡ answered "sending" values
+      → localSend side ls s n .1 ≡ withLink ls s (withSending (linkAt ls s) (linkAt ls s .next) true)
+  pub closed : told (localClose side ls s .0) ≡ answered "done" [] → localClose side ls s .1 ≡ withLink ls s (blank side)
