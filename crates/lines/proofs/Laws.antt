@@ -1,8 +1,8 @@
 -- The laws of pieces of input, and of text that waits.
 use Prim.Native.Nat.{ℕ, suc, _+_, _-_, _≤_, _<_}
 use native.Mathlib.Omega.{arith}
-use mathlib.Core.Bool.{true, false, _&&_, false≢true, and-eq-true-iff}
-use mathlib.Core.List.{List, _++_}
+use mathlib.Core.Bool.{true, false, false≢true, and-eq-true-iff}
+use mathlib.Core.List.{List, _++_, append-assoc, append-nil}
 use mathlib.Core.Path.{_≡_, refl, sym, ap, _∙_, subst}
 use lib.Dec.{leb}
 use lib.ListN.{length, take, drop, getD, drop-of-length-le}
@@ -10,9 +10,9 @@ use lib.Seq.{length-take-le, drop-cons, getD-take}
 use borrow.Author.Tests.{le-leb, ne-eqb, leb-true, ltb-true}
 use Rattle.octets.proofs.Tests.{cases, both-hold}
 use Rattle.octets.specs.Parts.{part, write}
-use Rattle.octets.proofs.Parts.{part-length, write-length, write-longer, write-behind}
+use Rattle.octets.proofs.Parts.{part-length, write-length, write-front, write-longer, write-behind}
 use Rattle.lines.specs.declared.Streams.{Streams}
-use Rattle.lines.specs.Streams.{newlineFrom, pieceFrom, nextPlace, Within, withWaiting, Flushed, hasRoom, RoomMade, waitingAfter, TextWaits, isLeft, Read, Found}
+use Rattle.lines.specs.Streams.{newlineFrom, pieceFrom, nextPlace, Within, withWaiting, Flushed, hasRoom, RoomMade, waitingAfter, TextWaits, EndWaits, isLeft, Read, Found}
 
 -- ---- the place of the first newline
 
@@ -163,3 +163,38 @@ module _ (s : Streams) (output : List ℕ) (room : ℕ) where
         let long = write-longer output (t .before .waiting) text (omega arith) in
         let put = ap length (t .put) in
         (omega arith, omega arith)
+
+-- ---- what waits is the end of all text put
+
+module _ {text : List ℕ} {s : Streams} {output : List ℕ} (w : EndWaits text s output) where
+  end-same : (r : Streams) → r .waiting ≡ s .waiting → EndWaits text r output
+  end-same r e = record { before = w .before; all = rw e (w .all); fits = rw e (w .fits) }
+
+  end-none : (r : Streams) → r .waiting ≡ 0 → EndWaits text r output
+  end-none r e = record { before = text; all = rw e (sym (append-nil text)); fits = omega arith }
+
+  -- after a piece found
+  pub end-found : (input : List ℕ) (r : Streams) (after : List ℕ) → Found s input output r after → EndWaits text r output
+  end-found input r after f =
+      cases (isLeft s input output) (λ e. end-same r (ap (λ (x : Streams). x .waiting) (f .left e .0)))
+      (λ e. end-none r (ap (λ (x : Streams). x .waiting) (f .read e .first)))
+
+  end-room : (room : ℕ) (r : Streams) → RoomMade s output room r → EndWaits text r output
+  end-room room r made =
+      cases (hasRoom s output room) (λ e. end-same r (ap (λ (x : Streams). x .waiting) (made .enough e)))
+      (λ e. end-none r (ap (λ (x : Streams). x .waiting) (made .less e .emptied)))
+
+  -- with a text more
+  pub end-more : (room : ℕ) (more : List ℕ) (r : Streams) (after : List ℕ) → room ≤ length output → length more ≤ room
+      → TextWaits s output room more r after → EndWaits (text ++ more) r after
+  end-more room more r after h short t =
+      let b = t .before in
+      let v = end-room room b (t .made) in
+      let fits = room-left s output room b (t .made) h in
+      let front = write-front output (b .waiting) more (omega arith) in
+      record {
+        before = v .before;
+        all = rw (ap (λ (x : Streams). x .waiting) (t .waits), t .put, front)
+            (ap (λ (l : List ℕ). l ++ more) (v .all) ∙ append-assoc (v .before) (take (b .waiting) output) more);
+        fits = text-within s output room more r after t h .1;
+      }

@@ -2,7 +2,7 @@
 -- is said here.
 use Prim.Native.Nat.{ℕ, suc, _+_, _-_, _≤_, _<_}
 use mathlib.Core.Bool.{Bool, true, false, _&&_, _||_, not, cond}
-use mathlib.Core.List.{List, [], _∷_}
+use mathlib.Core.List.{List, [], _∷_, _++_}
 use mathlib.Core.Path.{_≡_}
 use lib.Dec.{leb, ltb, eqb}
 use lib.ListN.{length, take, drop}
@@ -81,6 +81,12 @@ pub record TextWaits (s : Streams) (output : List ℕ) (room : ℕ) (text : List
   pub made : RoomMade s output room before
   pub put : after ≡ write output (before .waiting) text
   pub waits : r ≡ withWaiting before (before .waiting + length text) (before .taken)
+
+-- what waits, at the output's start, is the end of all text put
+pub record EndWaits (text : List ℕ) (s : Streams) (output : List ℕ) : Type 0 where
+  pub before : List ℕ
+  pub all : text ≡ before ++ take (s .waiting) output
+  pub fits : s .waiting ≤ length output
 
 -- ---- the next piece
 

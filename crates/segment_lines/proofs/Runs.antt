@@ -1,28 +1,27 @@
 -- The whole output (`specs/Runs.antt`).
 use Prim.Native.Nat.{ℕ, _≤_, min}
 use native.Mathlib.Omega.{arith}
-use mathlib.Core.Bool.{Bool, true, false, not, cond, _||_, _&&_}
+use mathlib.Core.Bool.{true, false, not}
 use mathlib.Core.List.{List, [], _∷_, _++_, append-assoc, append-nil}
 use mathlib.Core.Path.{_≡_, refl, sym, ap, _∙_, subst}
 use lib.Dec.{ltb}
 use lib.ListN.{length, take, length-take}
 use lib.Seq.{length-take-le, take-nil}
 use borrow.Author.Tests.{ltb-true, ltb-false, lt-ltb, le-ltb}
-use Rattle.octets.specs.Cut.{joined}
 use Rattle.octets.proofs.Tests.{cases}
 use Rattle.transactions.specs.declared.TransactionNumber.{TransactionNumber}
 use Rattle.line_buffer.proofs.Promises.{front-more}
 use Rattle.hex_lines.specs.Lines.{lineText, lineNext}
-use Rattle.hex_lines.proofs.Laws.{front-does-the-same}
-use Rattle.lines.specs.Streams.{nothingRead, pieceIn, withWaiting, isWhole}
+use Rattle.hex_lines.proofs.Laws.{enough, front-does-the-same}
+use Rattle.lines.specs.Streams.{nothingRead, pieceIn, withWaiting, EndWaits, isWhole}
 use Rattle.lines.specs.declared.Streams.{Streams}
-use Rattle.lines.specs.Lines.{linesOf, Reading, Follows, oneIf}
+use Rattle.lines.specs.Lines.{Reading, Follows}
 use Rattle.lines.specs.Lines.Follows.{begins as reading-begins}
-use Rattle.lines.proofs.Laws.{found-waiting, text-same, text-within}
+use Rattle.lines.proofs.Laws.{text-same, text-within, end-found, end-more}
 use Rattle.lines.proofs.Lines.{lines-found, reads-on}
 use Rattle.segment_lines.specs.declared.Progress.{Progress}
 use Rattle.segment_lines.specs.Turns.{heldText, Turn}
-use Rattle.segment_lines.specs.Runs.{State, firstNumber, stateOf, TurnTo, putBy, readBy, program, first, textFrom, WholeOutput}
+use Rattle.segment_lines.specs.Runs.{State, firstNumber, stateOf, TurnTo, putBy, readBy, program, first, textFrom, WholeOutput, WholeRun}
 use Rattle.lines.specs.Runs.{Runs, RunsTo}
 use Rattle.lines.specs.Runs.Runs.{begins, goes}
 use Rattle.lines.proofs.Runs.{runs-begin}
@@ -61,10 +60,10 @@ record Agrees (input : List ℕ) (x : Reading) (text : List ℕ) (σ : State) : 
   same-input : σ .input ≡ x .input
   room : length (σ .line) ≡ 2939
   output-room : 3776 ≤ length (σ .output)
-  waiting : σ .progress .streams .waiting ≤ length (σ .output)
   held : heldText (σ .progress) (σ .line) ≡ take 2939 (x .held)
   number : σ .progress .number ≡ numberFrom firstNumber (x .whole)
   put : text ≡ textFrom firstNumber (x .whole)
+  waits : EndWaits text (σ .progress .streams) (σ .output)
 
 module _ (input : List ℕ) (x : Reading) (text : List ℕ) (σ : State) (a : Agrees input x text σ) (found : σ .progress .streams .found ≡ true)
     (τ : State) (t : TurnTo σ τ) where
@@ -77,7 +76,7 @@ module _ (input : List ℕ) (x : Reading) (text : List ℕ) (σ : State) (a : Ag
 
   follows-on : Follows input (readBy σ τ t x)
   follows-on =
-      reads-on (a .follows) (σ .progress .streams) (a .streams) found (σ .input) (a .same-input) (σ .output) (a .waiting) (read .streams) (τ .input) (t .piece .found)
+      reads-on (a .follows) (σ .progress .streams) (a .streams) found (σ .input) (a .same-input) (σ .output) (a .waits .fits) (read .streams) (τ .input) (t .piece .found)
 
   held-front : heldText read (τ .line) ≡ take 2939 line
   held-front =
@@ -90,8 +89,8 @@ module _ (input : List ℕ) (x : Reading) (text : List ℕ) (σ : State) (a : Ag
   whole-is =
       whole-alike (read .streams) (read .held) line (sym (length-take-le (read .held) (τ .line) (t .piece .few)) ∙ ap length held-front)
 
-  waits-within : read .streams .waiting ≤ length (σ .output)
-  waits-within = found-waiting (σ .progress .streams) (read .streams) (σ .input) (σ .output) (τ .input) (t .piece .found) (a .waiting)
+  end-read : EndWaits text (read .streams) (σ .output)
+  end-read = end-found (a .waits) (σ .input) (read .streams) (τ .input) (t .piece .found)
 
   number-read : read .number ≡ numberFrom firstNumber (x .whole)
   number-read = t .piece .number ∙ a .number
@@ -111,10 +110,10 @@ module _ (input : List ℕ) (x : Reading) (text : List ℕ) (σ : State) (a : Ag
         same-input = refl;
         room = room-after;
         output-room = rw (b .1) (a .output-room);
-        waiting = rw (b .0, b .1) waits-within;
         held = rw (b .0, n) held-front;
         number = rw (b .0, n, append-nil (x .whole)) number-read;
         put = rw (e, n, append-nil (x .whole), append-nil text) (a .put);
+        waits = rw (e, append-nil text, b .0, b .1) end-read;
       }
 
   -- the turn ends its line
@@ -129,13 +128,15 @@ module _ (input : List ℕ) (x : Reading) (text : List ℕ) (σ : State) (a : Ag
         same-input = refl;
         room = room-after;
         output-room = omega (arith, within .0, a .output-room);
-        waiting = within .1;
         held = rw (b .none, y) (sym (take-nil 2939));
         number = rw (y, number-more firstNumber (x .whole) line)
             (b .next ∙ ap (lineNext (read .number)) held-front ∙ front-does-the-same (read .number) line .1 ∙ ap (λ (k : TransactionNumber). lineNext k line) number-read);
         put = rw (e, y, text-more firstNumber (x .whole) line)
             (ap (λ (l : List ℕ). l ++ lineText (read .number) (heldText read (τ .line))) (a .put)
             ∙ ap (λ (l : List ℕ). textFrom firstNumber (x .whole) ++ l) text-is);
+        waits = rw e
+            (end-more end-read 3776 (lineText (read .number) (heldText read (τ .line))) (τ .progress .streams) (τ .output) (a .output-room)
+            (enough (read .number) (heldText read (τ .line))) (b .text));
       }
 
 agrees : (input line output : List ℕ) → length line ≡ 2939 → 3776 ≤ length output
@@ -146,10 +147,10 @@ agrees input line output room few n x text σ begins = record {
   same-input = refl;
   room = room;
   output-room = few;
-  waiting = omega arith;
   held = refl;
   number = refl;
   put = refl;
+  waits = record { before = []; all = refl; fits = omega arith };
 }
 agrees input line output room few n x text σ (goes {x = y} {text = before} {σ = ρ} runs found τ t) =
     let a = agrees input line output room few _ y before ρ runs in
@@ -159,6 +160,12 @@ pub whole-output : WholeOutput
 whole-output input line output room few n x text σ runs none =
     let a = agrees input line output room few n x text σ runs in
     a .put ∙ ap (textFrom firstNumber) (lines-found input x (a .follows) (sym (ap (λ (s : Streams). s .found) (a .streams)) ∙ none))
+
+pub whole-run : WholeRun
+whole-run input line output room few r inputAfter lineAfter outputAfter ran none =
+    let runs = ran .run .runs in
+    let ended = sym (ap (λ (s : Streams). s .found) (ran .flushed .emptied)) ∙ none in
+    (whole-output input line output room few _ _ _ _ runs ended, agrees input line output room few _ _ _ _ runs .waits)
 
 -- the program starts with nothing read
 pub runs-start : {input line output : List ℕ} (s : Streams) → s ≡ nothingRead

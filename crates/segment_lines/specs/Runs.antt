@@ -8,7 +8,7 @@ use lib.ListN.{length}
 use Rattle.octets.specs.Cut.{joined}
 use Rattle.transactions.specs.declared.TransactionNumber.{TransactionNumber}
 use Rattle.hex_lines.specs.Lines.{lineText, lineNext}
-use Rattle.lines.specs.Streams.{nothingRead, isWhole}
+use Rattle.lines.specs.Streams.{nothingRead, Flushed, EndWaits, isWhole}
 use Rattle.lines.specs.Lines.{linesOf, Reading, readOn}
 use Rattle.lines.specs.Runs.{Program, Start, Runs, RunsTo}
 use Rattle.segment_lines.specs.declared.Progress.{Progress}
@@ -53,10 +53,15 @@ first input line output = record {
   text = [];
 }
 
--- what the program has done: a run to the end of the input, or of 2^64 - 1 turns
-pub record Ran (input line output : List ℕ) : Type 0 where
-  pub last : State
-  pub run : RunsTo program (first input line output) last 0
+-- what the program has done: a run to the end of the input, or of 2^64 - 1 turns, that left the buffers as they are; then what still waited was
+-- written out. A program that takes no turn must make up the system's answer, as that nothing was read: that no contract can rule out.
+pub record Ran (input line output : List ℕ) (r : Progress) (inputAfter lineAfter outputAfter : List ℕ) : Type 0 where
+  pub last : Progress
+  pub run : RunsTo program (first input line output) (stateOf last inputAfter lineAfter outputAfter) 0
+  pub flushed : Flushed (last .streams) outputAfter (r .streams)
+  pub none : r .streams .waiting ≡ 0
+  pub held : r .held ≡ last .held
+  pub number : r .number ≡ last .number
 
 -- ---- its text
 
@@ -71,3 +76,10 @@ WholeOutput =
     (input line output : List ℕ) → length line ≡ 2939 → 3776 ≤ length output
     → (n : ℕ) (x : Reading) (text : List ℕ) (σ : State) → Runs program (first input line output) n x text σ → σ .progress .streams .found ≡ false
     → text ≡ textFrom firstNumber (linesOf (joined (x .read)))
+
+-- the same of what `run` has done, where nothing more was found; and what it wrote out last is the end of that text
+abbrev pub WholeRun : Type 0
+WholeRun =
+    (input line output : List ℕ) → length line ≡ 2939 → 3776 ≤ length output
+    → (r : Progress) (inputAfter lineAfter outputAfter : List ℕ) (ran : Ran input line output r inputAfter lineAfter outputAfter) → r .streams .found ≡ false
+    → (ran .run .text ≡ textFrom firstNumber (linesOf (joined (ran .run .reading .read)))) × EndWaits (ran .run .text) (ran .last .streams) outputAfter

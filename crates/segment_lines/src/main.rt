@@ -69,9 +69,10 @@ fn take_turn(progress: Progress, input: &mut [u8], line: &mut [u8], output: &mut
     read
 }
 
-fn run(input: &mut [u8], line: &mut [u8], output: &mut [u8])
+// Takes turns to the end of the input, and writes out what still waits. What it then has is handed back so that the contract can speak of it.
+fn run(input: &mut [u8], line: &mut [u8], output: &mut [u8]) -> Progress
     requires { ⌜ 3776 ≤ length (now output) ⌝ }
-    ensures { λ _. ⌜ Ran (now (input .entry)) (now (line .entry)) (now (output .entry)) ⌝ }
+    ensures { λ r. ⌜ Ran (now (input .entry)) (now (line .entry)) (now (output .entry)) r (now (input .exit)) (now (line .exit)) (now (output .exit)) ⌝ }
 {
     let mut progress = Progress {
         streams: lines::start(),
@@ -89,7 +90,12 @@ fn run(input: &mut [u8], line: &mut [u8], output: &mut [u8])
             turns = 0;
         }
     }
-    lines::flush(progress.streams, output);
+    let number = progress.number;
+    Progress {
+        streams: lines::flush(progress.streams, output),
+        held: progress.held,
+        number: number,
+    }
 }
 
 fn main() {

@@ -66,9 +66,16 @@ same-length-3 c = search needs
 
 returns : tie.Need-returns Inv-loop μ-loop
 returns c =
-    let d = c .before .before .before in
+    let d = c .before .before .before .before in
     let none : d .loop .turns ≡ 0 = omega arith in
-    record { last = _; run = rw none at (d .loop .inv .4) }
+    record {
+      last = d .loop .progress;
+      run = rw none at (d .loop .inv .4);
+      flushed = c .flush .ensures .0;
+      none = c .flush .ensures .1;
+      held = refl;
+      number = refl;
+    }
 
 pub run-spec : {M : Type 1} → statement M
 run-spec =
