@@ -1,17 +1,25 @@
 -- "Figures at the edges": the figures marked (P), as a single table under one claim about our definitions.
 use Prim.Native.Nat.{ℕ}
-use mathlib.Core.Bool.{Bool, true, _&&_, not}
-use mathlib.Core.List.{List, [], _∷_, map}
+use Prim.Native.String.{String}
+use mathlib.Core.Bool.{Bool, true, false, _&&_}
+use mathlib.Core.List.{List, [], _∷_, _++_}
 use mathlib.Core.Path.{_≡_}
 use lib.Dec.{eqb}
-use lib.ListN.{length, replicate}
+use lib.ListN.{replicate}
+use text.Mathlib.Text.{_==_}
+use Rattle.octets.specs.Numbers.{octets32}
+use Rattle.octets.specs.Parts.{same}
+use Rattle.octets.specs.Cut.{upTo}
+use Rattle.octets.specs.Told.{Told, refused, answered}
 use Rattle.fcs.specs.Fcs.{checkOctet}
 use Rattle.transactions.specs.Segments.{segN}
-use Rattle.beacon.specs.Rules.{outOfWindow}
+use Rattle.beacon.specs.Beacons.{heard, told as beaconTold}
+use Rattle.beacon.specs.declared.SecurityState.{SecurityState}
+use Rattle.beacon.specs.declared.Hearing.{Hearing}
+use Rattle.beacon.specs.declared.Key.the-variants.{Old}
 use Rattle.beacon.specs.declared.Subnet.the-variants.{Primary}
-use Rattle.octets.specs.Parts.{same}
 use Rattle.proxy.specs.Pieces.{messagePieces}
-use Rattle.proxy.specs.Transfers.{dataOf}
+use Rattle.filter_messages.specs.Messages.{told as filterTold}
 use Rattle.proxy_filter.specs.Calls.{new, controlled}
 use Rattle.proxy_filter.specs.Promises.{octetsOf}
 
@@ -21,20 +29,43 @@ pub data Figure : Type 0 where
   check : List ℕ → ℕ → Figure
   -- SegN for a length L
   last : ℕ → ℕ → Figure
-  -- with IV index I known, index B gives no 57 on the primary subnet
-  inWindow : ℕ → ℕ → Figure
-  -- a message of so many octets goes at a proxy size in pieces with so many of them each
-  pieces : ℕ → ℕ → List ℕ → Figure
-  -- a new filter to which a list of addresses was added has a count after one more address
-  filterCount : List ℕ → ℕ → ℕ → Figure
+  -- the pieces of a message of type 0 at a proxy size
+  pieces : ℕ → List ℕ → List (List ℕ) → Figure
+  -- the status of a new filter to which a list of addresses was added, after one more address
+  status : List ℕ → ℕ → List ℕ → Figure
+  -- a beacon with index B, with IV index I known: it is not refused, and its two reports
+  reports : ℕ → ℕ → List ℕ → Figure
+
+-- whether an answer has this word and these values
+abbrev pub says : Told → String → List ℕ → Bool
+says (refused n) word values = false
+says (answered w others) word values = (w == word) && same others values
+
+abbrev pub sameLists : List (List ℕ) → List (List ℕ) → Bool
+sameLists [] [] = true
+sameLists [] (y ∷ m) = false
+sameLists (x ∷ l) [] = false
+sameLists (x ∷ l) (y ∷ m) = same x y && sameLists l m
+
+-- phase 0 and the IV index in normal operation
+abbrev pub knowing : ℕ → SecurityState
+knowing index = record { phase = 0; iv = record { index = index; updating = false } }
+
+-- authentic with the old key, on the primary subnet
+abbrev pub fromPrimary : Hearing
+fromPrimary = record { authentic = true; key = Old; subnet = Primary }
+
+-- "Type 1: flags 1 [..], Network ID 8, IV index 4, authentication 8"
+abbrev pub beaconOf : ℕ → List ℕ
+beaconOf index = 0x01 ∷ 0x00 ∷ replicate 8 0 ++ octets32 index ++ replicate 8 0
 
 -- whether our definitions give it
 abbrev pub holds : Figure → Bool
 holds (check m c) = eqb (checkOctet m) c
 holds (last l n) = eqb (segN l) n
-holds (inWindow i b) = not (outOfWindow i Primary b)
-holds (pieces size n lengths) = same (map length (map dataOf (messagePieces size 0 (replicate n 0)))) lengths
-holds (filterCount l a n) = eqb (controlled (controlled new (0x01 ∷ octetsOf l) .filter) (0x01 ∷ octetsOf (a ∷ [])) .filter .count) n
+holds (pieces size m octets) = sameLists (messagePieces size 0 m) octets
+holds (status l a values) = says (filterTold (controlled (controlled new (0x01 ∷ octetsOf l) .filter) (0x01 ∷ octetsOf (a ∷ [])) .answer)) "status" values
+holds (reports i b values) = says (beaconTold (heard (knowing i) fromPrimary (beaconOf b) .answer)) "secure" values
 
 abbrev pub allHold : List Figure → Bool
 allHold [] = true
@@ -53,10 +84,11 @@ figures =
     ∷ last 43 1
     ∷ last 44 2
     ∷ last 1469 63
-    ∷ pieces 20 19 (19 ∷ [])
-    ∷ pieces 20 20 (19 ∷ 1 ∷ [])
-    ∷ filterCount (1 ∷ 2 ∷ 3 ∷ 4 ∷ 5 ∷ 6 ∷ 7 ∷ 8 ∷ 9 ∷ 10 ∷ 11 ∷ 12 ∷ 13 ∷ 14 ∷ 15 ∷ 16 ∷ []) 17 16
-    ∷ inWindow 0xFFFFFFFF 0xFFFFFFFF
+    -- top bits 0; then 1 and 3, in the two high bits of the first octet
+    ∷ pieces 20 (upTo 19) ((0x00 ∷ upTo 19) ∷ [])
+    ∷ pieces 20 (upTo 20) ((0x40 ∷ upTo 19) ∷ (0xC0 ∷ 19 ∷ []) ∷ [])
+    ∷ status (1 ∷ 2 ∷ 3 ∷ 4 ∷ 5 ∷ 6 ∷ 7 ∷ 8 ∷ 9 ∷ 10 ∷ 11 ∷ 12 ∷ 13 ∷ 14 ∷ 15 ∷ 16 ∷ []) 17 (0x03 ∷ 0 ∷ 0 ∷ 16 ∷ [])
+    ∷ reports 0xFFFFFFFF 0xFFFFFFFF (0 ∷ 0 ∷ [])
     ∷ []
 
 -- THE CLAIM
