@@ -19,7 +19,7 @@ use Rattle.filter_entries.proofs.Lookup.{Found, there, absent, found}
 
 -- ---- membership
 
-neither : (a b : Bool) → (a || b) ≡ false → (a ≡ false) × (b ≡ false)
+pub neither : (a b : Bool) → (a || b) ≡ false → (a ≡ false) × (b ≡ false)
 neither false b e = (refl, e)
 neither true b e = let z : _≡_ {A = ℕ} 0 1 = cc in absurd (omega arith)
 
@@ -35,7 +35,7 @@ off-both (e ∷ x) y a p = let b = neither (eqb (e .address) a) (isOn (x ++ y) a
 -- ---- no repeat and no 0x0000
 
 -- what is said of the first of a list
-first-allowed : (e : Entry) (l : List Entry) → allAllowed (e ∷ l) ≡ true
+pub first-allowed : (e : Entry) (l : List Entry) → allAllowed (e ∷ l) ≡ true
     → (not (eqb (e .address) 0) ≡ true) × ((isOn l (e .address) ≡ false) × (allAllowed l ≡ true))
 first-allowed e l h =
     let b = and-eq-true-iff (not (eqb (e .address) 0) && not (isOn l (e .address))) (allAllowed l) .0 h in

@@ -1,2 +1,3 @@
 pub mod Entries
 pub mod Changes
+pub mod Bad

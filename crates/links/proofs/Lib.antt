@@ -8,6 +8,7 @@ pub mod Sound
 pub mod Local
 pub mod Lens
 pub mod Keep
+pub mod Bad
 pub mod Leaves
 pub mod Frames
 pub mod Right

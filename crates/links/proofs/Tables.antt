@@ -1,5 +1,5 @@
 -- Document 01's receiving table and those of the local calls (`specs/Tables.antt`).
-use Prim.Native.Nat.{ℕ, _*_, _-_, _/_, _<_}
+use Prim.Native.Nat.{ℕ, suc, _*_, _-_, _/_, _<_}
 use native.Mathlib.Omega.{arith}
 use mathlib.Core.Bool.{true, false, _&&_, _||_, cond, not, false≢true}
 use mathlib.Core.List.{List, [], _∷_, _++_}
@@ -25,15 +25,17 @@ use Rattle.pb_adv.specs.declared.Parsed.{Parsed}
 use Rattle.pb_adv.proofs.Tables.{IsFrame, start, acknowledgement, continuation, opens, acks, closes, Reads, no-frame, unknown, frame, reads}
 use Rattle.transactions.specs.declared.Socket.{Socket}
 use Rattle.links.specs.Marks.{isMarked, withMark, allMarked}
-use Rattle.links.specs.Links.{peer, sends, isLast, inUse, find, told}
+use Rattle.links.specs.Links.{peer, sends, isLast, inUse, findFrom, find, told}
 use Rattle.links.specs.Good.{goodAs, goodLink, good}
 use Rattle.links.specs.Segments.{OneLink, entered, offered, begun, onHalf, segmentStep}
 use Rattle.links.specs.Station.{Station, noLink, getLink, putLink, linkAt, isFound, isOpen, acknowledgementStep, ackStep, frameStep, atSocket, onFrame, received, localOpen, localSend, localClose}
-use Rattle.links.specs.Tables.{linkFound, isOpening, notOpen, wrongDirection, notOutstanding, checkIn, isLastDelivered, messageOf, notBegun, isUnfit, otherOctets, isLastMissing, otherCheck, mismatches, wrongCheck, isComplete, isRepeat, receivingRows, ReceivingTable, leaves, ReceivingLeaves, openRows, sendRows, closeRows, LocalTables}
+use Rattle.links.specs.Tables.{isFree, isIdInUse, linkFound, isOpening, notOpen, wrongDirection, notOutstanding, checkIn, hasLastNumber, isLastDelivered, messageOf, notBegun, isUnfit, otherOctets, isLastMissing, otherCheck, mismatches, wrongCheck, isComplete, isRepeat, receivingRows, ReceivingTable, leaves, ReceivingLeaves, openRows, sendRows, closeRows, LocalTables}
 use Rattle.links.specs.declared.Side.{Side}
 use Rattle.links.specs.declared.Side.the-variants.{Provisioner, Device}
 use Rattle.links.specs.declared.LinkState.{LinkState}
 use Rattle.links.specs.declared.LinkState.the-variants as S
+use Rattle.links.specs.declared.LastDelivered.{LastDelivered}
+use Rattle.links.specs.declared.LastDelivered.the-variants as L
 use Rattle.links.specs.declared.HalfMessage.{HalfMessage}
 use Rattle.links.specs.declared.HalfReceived.{HalfReceived}
 use Rattle.links.specs.declared.HalfReceived.the-variants as H
@@ -59,6 +61,28 @@ upper-half : (n : ℕ) → n < 256 → eqb (n / 128) 1 ≡ not (ltb n 128)
 upper-half n h = cases (ltb n 128)
     (λ e. rw (e, ne-eqb (n / 128) 1 (omega (arith, ltb-true n 128 e))))
     (λ e. rw (e, eq-eqb (n / 128) 1 (omega (arith, ltb-false n 128 e))))
+
+-- ---- the tests of the definitions, in the rows' words
+
+use-free : (state : LinkState) → inUse state ≡ not (isFree state)
+use-free S.Free = refl
+use-free S.Opening = refl
+use-free S.Open = refl
+
+open-others : (state : LinkState) → isOpen state ≡ not (isFree state || isOpening state)
+open-others S.Free = refl
+open-others S.Opening = refl
+open-others S.Open = refl
+
+found-from : (k : ℕ) (ls : List Link) (id : ℕ) → isFound (findFrom k ls id) ≡ isIdInUse ls id
+unfolding findFrom
+found-from k [] id = refl
+found-from k (l ∷ ls) id =
+    rw (use-free (l .state)) (cases (not (isFree (l .state)) && eqb (l .id) id) (λ e. rw e) (λ e. rw e (found-from (suc k) ls id)))
+
+last-number : (last : LastDelivered) (f : List ℕ) → hasLastNumber last f ≡ isLast last (numberOf f)
+last-number L.Nothing f = refl
+last-number (L.Number t) f = refl
 
 -- ---- the rows by parts
 
@@ -123,19 +147,19 @@ module _ (x : OneLink) (h : HalfMessage) (k : ℕ) (d : List ℕ) (rest : List R
 module _ (x : OneLink) (f : List ℕ) (rest : List Row) (awaited : isLast (x .link .last) (numberOf f) ≡ false) where
   start-rows : kindOf f ≡ 0 → (half : HalfReceived)
       → firstOf (segmentRows x half f ++ rest) ≡ some (told (onHalf x half (numberOf f) (Start (lengthIn f) (checkIn f)) (part f 9 (length f - 9)) .0))
-  start-rows k H.Nothing = rw (awaited, k) (entered-row x (begun (numberOf f) (lengthIn f) (checkIn f)) 0 (part f 9 (length f - 9)) rest (none-marked 0))
+  start-rows k H.Nothing = rw (last-number (x .link .last) f, awaited, k) (entered-row x (begun (numberOf f) (lengthIn f) (checkIn f)) 0 (part f 9 (length f - 9)) rest (none-marked 0))
   start-rows k (H.Message h) =
       cases (eqb (h .number .0) (numberOf f .0))
-      (λ e. rw (awaited, e, k) (cases (eqb (h .length) (lengthIn f) && eqb (h .check) (checkIn f))
+      (λ e. rw (last-number (x .link .last) f, awaited, e, k) (cases (eqb (h .length) (lengthIn f) && eqb (h .check) (checkIn f))
       (λ u. rw u (offered-row x h 0 (part f 9 (length f - 9)) rest)) (λ u. rw u)))
-      (λ e. rw (awaited, e, k) (entered-row x (begun (numberOf f) (lengthIn f) (checkIn f)) 0 (part f 9 (length f - 9)) rest (none-marked 0)))
+      (λ e. rw (last-number (x .link .last) f, awaited, e, k) (entered-row x (begun (numberOf f) (lengthIn f) (checkIn f)) 0 (part f 9 (length f - 9)) rest (none-marked 0)))
 
   continuation-rows : kindOf f ≡ 2 → (half : HalfReceived)
       → firstOf (segmentRows x half f ++ rest) ≡ some (told (onHalf x half (numberOf f) (Continuation (highBits f)) (part f 6 (length f - 6)) .0))
-  continuation-rows k H.Nothing = rw (awaited, k)
+  continuation-rows k H.Nothing = rw (last-number (x .link .last) f, awaited, k)
   continuation-rows k (H.Message h) =
       cases (eqb (h .number .0) (numberOf f .0))
-      (λ e. rw (awaited, e, k) (offered-row x h (highBits f) (part f 6 (length f - 6)) rest)) (λ e. rw (awaited, e, k))
+      (λ e. rw (last-number (x .link .last) f, awaited, e, k) (offered-row x h (highBits f) (part f 6 (length f - 6)) rest)) (λ e. rw (last-number (x .link .last) f, awaited, e, k))
 
 -- ---- a frame at its link
 
@@ -161,7 +185,7 @@ module _ (f : List ℕ) (o : Octets f) where
     unfolding segmentStep
     open-segment s a c header d rows =
         rw (segment-direction s a c side) (cases (sends (peer side) (numberOf f))
-        (λ q. rw (q, a) (cases (isLast (x .link .last) (numberOf f)) (λ l. rw (s, l)) (λ l. let w = rows l in rw l (rw (a, l) at w))))
+        (λ q. rw (q, a) (cases (isLast (x .link .last) (numberOf f)) (λ l. rw (s, last-number (x .link .last) f, l)) (λ l. let w = rows l in rw l (rw a at w))))
         (λ q. rw q))
 
     open-acknowledgement : kindOf f ≡ 1
@@ -258,7 +282,7 @@ module _ (side : Side) (σ : Station) (f : List ℕ) (o : Octets f) where
   unfolding received
   first-row =
       cases (eqb (length (σ .area)) (1469 * length (σ .links)))
-      (λ e. rw e (cases (good side (σ .links)) (λ g. rw g (by-reads g (parsed f) (reads f))) (λ g. rw g)))
+      (λ e. rw e (cases (good side (σ .links)) (λ g. rw (g, ← (found-from 0 (σ .links) (linkId f))) (by-reads g (parsed f) (reads f))) (λ g. rw g)))
       (λ e. rw e)
 
 -- THE RECEIVING TABLE
@@ -289,7 +313,7 @@ module _ (side : Side) (ls : List Link) (s : Socket) where
   open-first id =
       cases (isSocket s (length ls))
       (λ r. rw r (cases (good side ls)
-      (λ g. rw g (cases (inUse (linkAt ls s .state)) (λ e. rw e) (λ e. rw e (cases (isFound (find ls id)) (λ u. rw u) (λ u. rw u)))))
+      (λ g. rw (g, use-free (linkAt ls s .state), found-from 0 ls id) (cases (isFree (linkAt ls s .state)) (λ e. rw e (cases (isIdInUse ls id) (λ u. rw u) (λ u. rw u))) (λ e. rw e)))
       (λ g. rw g)))
       (λ r. rw r)
 
@@ -299,7 +323,8 @@ module _ (side : Side) (ls : List Link) (s : Socket) where
       cases (isSocket s (length ls))
       (λ r. rw r (cases (isLength n)
       (λ r. rw r (cases (good side ls)
-      (λ g. rw g (cases (isOpen (linkAt ls s .state)) (λ e. rw e (cases (linkAt ls s .outstanding) (λ u. rw u) (λ u. rw u))) (λ e. rw e)))
+      (λ g. rw (g, open-others (linkAt ls s .state)) (cases (isFree (linkAt ls s .state) || isOpening (linkAt ls s .state))
+      (λ e. rw e) (λ e. rw e (cases (linkAt ls s .outstanding) (λ u. rw u) (λ u. rw u)))))
       (λ g. rw g)))
       (λ r. rw r)))
       (λ r. rw r)
@@ -308,7 +333,7 @@ module _ (side : Side) (ls : List Link) (s : Socket) where
   unfolding localClose
   close-first =
       cases (isSocket s (length ls))
-      (λ r. rw r (cases (good side ls) (λ g. rw g (cases (inUse (linkAt ls s .state)) (λ e. rw e) (λ e. rw e))) (λ g. rw g)))
+      (λ r. rw r (cases (good side ls) (λ g. rw (g, use-free (linkAt ls s .state)) (cases (isFree (linkAt ls s .state)) (λ e. rw e) (λ e. rw e))) (λ g. rw g)))
       (λ r. rw r)
 
 pub local-tables : (side : Side) (ls : List Link) (s : Socket) → LocalTables side ls s

@@ -8,5 +8,6 @@ pub mod Interleaving
 pub mod Operations
 pub mod Demand3
 pub mod Demand2
+pub mod Bad
 pub mod Tables
 pub mod Idle

@@ -18,10 +18,10 @@ use Rattle.transactions.specs.declared.Socket.{Socket}
 use Rattle.pb_adv.specs.Frame.{linkId, numberOf, highBits}
 use Rattle.pb_adv.specs.Tables.{isKind, isControl, isSegment, lengthIn, malformed, unknownOpcode}
 use Rattle.links.specs.Marks.{isMarked, withMark, allMarked}
-use Rattle.links.specs.Links.{isLast, blank, blankWith, withState, withReceived, withSending, inUse, find, refusalNumber, told}
+use Rattle.links.specs.Links.{blank, blankWith, withState, withReceived, withSending, find, refusalNumber, told}
 use Rattle.links.specs.Good.{good}
 use Rattle.links.specs.Segments.{OneLink, marked, begun}
-use Rattle.links.specs.Station.{Station, getLink, putLink, setLink, received, linkAt, withLink, isFound, isOpen, localOpen, localSend, localClose}
+use Rattle.links.specs.Station.{Station, getLink, putLink, setLink, received, linkAt, withLink, localOpen, localSend, localClose}
 use Rattle.links.specs.Operations.{Receiver}
 use Rattle.links.specs.declared.Side.{Side}
 use Rattle.links.specs.declared.Side.the-variants.{Provisioner, Device}
@@ -44,13 +44,23 @@ use Rattle.links.specs.declared.Found.the-variants.{At, Nowhere}
 abbrev pub wrongArea : Station → Bool
 wrongArea σ = not (eqb (length (σ .area)) (1469 * length (σ .links)))
 
--- "the state passed in is bad"
+-- "the state passed in is bad (below)"; the sentences below are those of `Bad.antt`
 abbrev pub badState : Side → List Link → Bool
 badState side ls = not (good side ls)
 
+abbrev pub isFree : LinkState → Bool
+isFree S.Free = true
+isFree S.Opening = false
+isFree S.Open = false
+
+-- "Link ID in use": a record in use has it
+abbrev pub isIdInUse : List Link → ℕ → Bool
+isIdInUse [] id = false
+isIdInUse (l ∷ ls) id = (not (isFree (l .state)) && eqb (l .id) id) || isIdInUse ls id
+
 -- "Link ID of no record in use"
 abbrev pub unknownLink : Station → List ℕ → Bool
-unknownLink σ f = not (isFound (find (σ .links) (linkId f)))
+unknownLink σ f = not (isIdInUse (σ .links) (linkId f))
 
 -- the link that a frame is for
 abbrev pub linkFound : Station → Found → OneLink
@@ -94,8 +104,12 @@ checkIn f = getD f 8 0
 -- ---- "acknowledge again", 6, 7, 8, and what a good segment answers
 
 -- "a segment with the link's last delivered number"
+abbrev pub hasLastNumber : LastDelivered → List ℕ → Bool
+hasLastNumber L.Nothing f = false
+hasLastNumber (L.Number t) f = eqb (t .0) (numberOf f .0)
+
 abbrev pub isLastDelivered : LastDelivered → List ℕ → Bool
-isLastDelivered last f = isSegment f && isLast last (numberOf f)
+isLastDelivered last f = isSegment f && hasLastNumber last f
 
 -- there is a "half-received message of its number"
 abbrev pub hasNumber : HalfReceived → List ℕ → Bool
@@ -237,8 +251,8 @@ abbrev pub openRows : Side → List Link → Socket → ℕ → List Row
 openRows side ls s id =
     refusal 11 (wrongSocket ls s)
     ∷ refusal 14 (badState side ls)
-    ∷ refusal 9 (inUse (linkAt ls s .state))
-    ∷ refusal 10 (isFound (find ls id))
+    ∷ refusal 9 (not (isFree (linkAt ls s .state)))
+    ∷ refusal 10 (isIdInUse ls id)
     ∷ reply "done" [] true
     ∷ []
 
@@ -247,7 +261,7 @@ abbrev pub sendRows : Side → List Link → Socket → ℕ → List Row
 sendRows side ls s n =
     refusal 11 (wrongSocket ls s || wrongLength n)
     ∷ refusal 14 (badState side ls)
-    ∷ refusal 4 (not (isOpen (linkAt ls s .state)))
+    ∷ refusal 4 (isFree (linkAt ls s .state) || isOpening (linkAt ls s .state))
     ∷ refusal 13 (linkAt ls s .outstanding)
     ∷ reply "sending" (linkAt ls s .next .0 ∷ segN n ∷ []) true
     ∷ []
@@ -257,7 +271,7 @@ abbrev pub closeRows : Side → List Link → Socket → List Row
 closeRows side ls s =
     refusal 11 (wrongSocket ls s)
     ∷ refusal 14 (badState side ls)
-    ∷ refusal 4 (not (inUse (linkAt ls s .state)))
+    ∷ refusal 4 (isFree (linkAt ls s .state))
     ∷ reply "done" [] true
     ∷ []
 

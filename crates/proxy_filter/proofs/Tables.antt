@@ -22,11 +22,16 @@ use Rattle.filter_entries.specs.declared.Entry.{Entry}
 use Rattle.filter_entries.specs.declared.Place.{Place}
 use Rattle.filter_entries.specs.declared.Place.the-variants.{At, Nowhere}
 use Rattle.filter_entries.proofs.Lookup.{isThere, on-found}
+use Rattle.filter_entries.proofs.Bad.{bad-entries}
 use Rattle.proxy_filter.specs.Filters.{held, holding, isGood}
 use Rattle.proxy_filter.specs.Calls.{addresses, reporting, performed, controlled, isUnicast, learned, passAnswer, passing, passTold}
-use Rattle.proxy_filter.specs.Tables.{statusRow, controlRows, ControlTable, learnRows, LearnTable, listPasses, passRows, PassTable}
+use Rattle.proxy_filter.specs.Tables.{BadFilters, statusRow, controlRows, ControlTable, learnRows, LearnTable, listPasses, passRows, PassTable}
 use Rattle.proxy_filter.specs.declared.Filter.{Filter}
 use Rattle.proxy_filter.proofs.Holding.{held-holding, count-holding}
+
+pub bad-filters : BadFilters
+unfolding isGood
+bad-filters f = bad-entries (f .count) (f .entries)
 
 status-told : (kind : FilterType) (l : List Entry) → statusRow (holding kind l) .answer ≡ told (reporting (holding kind l) .answer)
 status-told kind l = rw (held-holding kind l, count-holding kind l)

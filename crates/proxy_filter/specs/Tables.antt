@@ -3,6 +3,8 @@
 use Prim.Native.Nat.{ℕ}
 use mathlib.Core.Bool.{Bool, true, _&&_, _||_, not}
 use mathlib.Core.List.{List, [], _∷_, _++_}
+use mathlib.Core.Logic.{_↔_}
+use mathlib.Core.Path.{_≡_}
 use lib.Dec.{ltb, eqb}
 use lib.ListN.{length}
 use Rattle.octets.specs.Numbers.{octets16}
@@ -12,13 +14,17 @@ use Rattle.filter_messages.specs.Tables.{messageRefusals}
 use Rattle.filter_messages.specs.declared.FilterType.{FilterType}
 use Rattle.filter_messages.specs.declared.FilterType.the-variants.{AcceptList, RejectList}
 use Rattle.filter_entries.specs.Entries.{isOn}
+use Rattle.filter_entries.specs.Bad.{NotBad}
 use Rattle.proxy_filter.specs.Filters.{held, isGood}
 use Rattle.proxy_filter.specs.Calls.{controlled, learned, passing, passTold}
 use Rattle.proxy_filter.specs.declared.Filter.{Filter}
 
--- 14: "a filter of over 16 addresses, with a repeat or 0x0000, or not 0 past its count"
+-- 14: "a filter of over 16 addresses, with a repeat or 0x0000, or not 0 past its count"; the sentences are those of `NotBad`
 abbrev pub badRow : Filter → Row
 badRow f = refusal 14 (not (isGood f))
+
+abbrev pub BadFilters : Type 0
+BadFilters = (f : Filter) → (isGood f ≡ true) ↔ NotBad (f .count) (f .entries)
 
 -- "The answer is 03, type, count in two octets.", of the filter handed back
 abbrev pub statusRow : Filter → Row

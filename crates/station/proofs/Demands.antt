@@ -1,21 +1,14 @@
 -- The demands of the station (`specs/Demands.antt`), from those over any number of links.
 use Prim.Native.Nat.{_*_, _/_}
 use native.Mathlib.Omega.{arith}
-use mathlib.Core.Bool.{true, false}
-use mathlib.Core.Logic.{_≢_}
-use mathlib.Core.Path.{_≡_, refl}
-use lib.Dec.{eqb}
+use mathlib.Core.Path.{_≡_}
 use lib.ListN.{length}
-use borrow.Author.Tests.{eq-eqb, eqb-true}
-use Rattle.octets.proofs.Tests.{cases}
-use Rattle.transactions.specs.declared.TransactionNumber.{TransactionNumber}
-use Rattle.links.specs.Links.{isLast}
+use borrow.Author.Tests.{eq-eqb}
 use Rattle.links.specs.Station.{Station, getLink}
 use Rattle.links.specs.Demand3.{Message, Ready}
 use Rattle.links.specs.declared.Side.the-variants.{Provisioner}
-use Rattle.links.specs.declared.LastDelivered.{LastDelivered}
-use Rattle.links.specs.declared.LastDelivered.the-variants as L
 use Rattle.links.specs.declared.Link.{Link}
+use Rattle.links.proofs.Bad.{other-last}
 use Rattle.links.proofs.Tables.{receiving-table}
 use Rattle.links.proofs.Back.{back}
 use Rattle.links.proofs.Only.{only}
@@ -23,16 +16,11 @@ use Rattle.links.proofs.Demand3.{demand3}
 use Rattle.station.specs.Calls.{stationOf}
 use Rattle.station.specs.Demands.{Eight, ReadyFor, Demands}
 
-not-last : (last : LastDelivered) (t : TransactionNumber) → last ≢ L.Number t → isLast last t ≡ false
-not-last L.Nothing t h = refl
-not-last (L.Number u) t h =
-    cases (eqb (u .0) (t .0)) (λ e. let q : u .0 ≡ t .0 = eqb-true (u .0) (t .0) e in absurd (h (λ i. L.Number (record { 0 = q i })))) (λ e. e)
-
 ready : (l : Link) (m : Message) → ReadyFor l m → Ready Provisioner l m
 ready l m a = record {
   isOpen = a .isOpen;
   nothing = a .nothing;
-  awaited = record { notLast = not-last (l .last) (m .number) (a .notLast) };
+  awaited = record { notLast = other-last (l .last) (m .number) (a .notLast) };
   number = eq-eqb (m .number .0 / 128) 1 (omega (arith, a .device-side));
   some-octets = a .some-octets;
   few-octets = a .few-octets;
