@@ -9,22 +9,23 @@ use mathlib.Core.Path.{_≡_, refl, sym, ap, _∙_, subst}
 use lib.Dec.{eqb}
 use lib.ListN.{length, getD, take}
 use lib.Seq.{append-snoc}
-use borrow.Author.Tests.{eq-eqb, ne-eqb}
+use borrow.Author.Tests.{eqb-true, eqb-false, eq-eqb, ne-eqb}
 use Rattle.octets.specs.Numbers.{Octets}
 use Rattle.octets.specs.Parts.{part}
 use Rattle.octets.proofs.Tests.{cases, both}
+use Rattle.transactions.specs.Numbers.{isSocket}
 use Rattle.transactions.specs.Segments.{segN}
 use Rattle.transactions.specs.declared.TransactionNumber.{TransactionNumber}
 use Rattle.transactions.specs.declared.Socket.{Socket}
 use Rattle.pb_adv.specs.Frame.{linkId, parsed}
 use Rattle.pb_adv.specs.declared.Parsed.{Parsed}
 use Rattle.pb_adv.specs.declared.Parsed.the-variants as P
-use Rattle.pb_adv_writing.specs.Writing.{segmentFrame, SegmentAsked}
+use Rattle.pb_adv_writing.specs.Writing.{segmentFrame, messageFrames, SegmentAsked}
 use Rattle.pb_adv_writing.proofs.Promises.{parsed-frame}
-use Rattle.links.specs.Links.{sends, told}
+use Rattle.links.specs.Links.{sends, inUse, told}
 use Rattle.links.specs.Good.{good}
 use Rattle.links.specs.Segments.{OneLink}
-use Rattle.links.specs.Station.{Station, socketPlace, noLink, getLink, acknowledgementStep, ackStep, frameStep, received, localOpen}
+use Rattle.links.specs.Station.{Station, socketPlace, noLink, getLink, acknowledgementStep, ackStep, frameStep, received, linkAt, localOpen, localClose}
 use Rattle.links.specs.Interleaving.{keepIf, All}
 use Rattle.links.specs.Operations.{Operation, receiving, opening, sending, closing, operate, afterAll}
 use Rattle.links.specs.Promises.{Sized, addressed, LocalCall}
@@ -43,9 +44,9 @@ use Rattle.links.proofs.Deliver.{Inv, fresh, inv-same, answerTo, step-i
 use Rattle.links.proofs.Lens.{part-size}
 use Rattle.links.proofs.Right.{OpenAt, goes, same, stays}
 use Rattle.links.proofs.Frames.{of-cut, in-cut, indexAt, index-at, found-id, frame-id, whose}
-use Rattle.links.proofs.Sockets.{place-below}
+use Rattle.links.proofs.Sockets.{socketAt, place-below, socket-at}
 use Rattle.links.proofs.Demand3.{delivery-in}
-use Rattle.links.proofs.Local.{open-count, send-count, close-count, send-after}
+use Rattle.links.proofs.Local.{open-used, close-nowhere, open-count, send-count, close-count, send-after}
 use Rattle.links.proofs.Promises.{stepped, received-at, receiving-keeps-count, receiving-keeps-size, receiving-keeps-good, local-calls}
 
 -- ---- what operations bring to the link of a Link ID: the numbers of the segments, in their order
@@ -179,7 +180,7 @@ module _ (side : Side) (σ : Station) (socket : Socket) (m : Message) (P : Prepa
 
   -- an operation brings a segment, or leaves the link alone
   data Turn (l : List ℕ) (τ : Station) (c : Operation) : Type 0 where
-    own : (f : List ℕ) → c ≡ receiving f → (k : ℕ) → ((cs : List Operation) → brings id (c ∷ cs) ≡ k ∷ brings id cs) → received side τ f .0 ≡ answerTo octets t l k
+    own : (f : List ℕ) → List·Memᴰ f (messageFrames id t octets) → c ≡ receiving f → (k : ℕ) → ((cs : List Operation) → brings id (c ∷ cs) ≡ k ∷ brings id cs) → received side τ f .0 ≡ answerTo octets t l k
         → Going (push l k) (operate side τ c .1) → Turn l τ c
     other : ((cs : List Operation) → brings id (c ∷ cs) ≡ brings id cs) → Going l (operate side τ c .1) → Turn l τ c
 
@@ -190,10 +191,10 @@ module _ (side : Side) (σ : Station) (socket : Socket) (m : Message) (P : Prepa
       inv = inv-same octets t l (getLink s τ) (getLink s τ′) (e .last) (e .half) (e .part) (g .inv);
     }
 
-    takes : (f : List ℕ) (k : ℕ) → k ≤ last → f ≡ segmentFrame id t octets k → Turn l τ (receiving f)
-    takes f k b e =
+    takes : (f : List ℕ) → List·Memᴰ f (messageFrames id t octets) → (k : ℕ) → k ≤ last → f ≡ segmentFrame id t octets k → Turn l τ (receiving f)
+    takes f ofCut k b e =
         let w = step-inv octets t (P .ready .some-octets) l (getLink s τ) k b (g .inv) in
-        own f refl k (subst (λ (h : List ℕ). (cs : List Operation) → brings id (receiving h ∷ cs) ≡ k ∷ brings id cs) (sym e) (brings-frame k b))
+        own f ofCut refl k (subst (λ (h : List ℕ). (cs : List Operation) → brings id (receiving h ∷ cs) ≡ k ∷ brings id cs) (sym e) (brings-frame k b))
         (ap (λ (r : Answer × Station). r .0) (goes side τ s id (g .at) t octets k (asked k b) (P .ready .number) f e) ∙ w .0)
         (record {
           at = stays side τ s id (g .at) t octets k (asked k b) (P .ready .number) f e;
@@ -222,23 +223,44 @@ module _ (side : Side) (σ : Station) (socket : Socket) (m : Message) (P : Prepa
     unfolding getLink
     local ls n h e = alone _ (rw n (g .at .sized)) n h (record { state = e .state; id = e .id; last = e .last; half = e .half; part = refl })
 
+    -- a local Open of this socket is refused, and so is a Close of a socket that has its place and isn't this one
+    opening-same : (w : Socket) (i : ℕ) → (s ≢ socketPlace w → getD (localOpen side (τ .links) w i .1) s noLink ≡ getD (τ .links) s noLink)
+        → getD (localOpen side (τ .links) w i .1) s noLink ≡ getD (τ .links) s noLink
+    unfolding getLink
+    opening-same w i elsewhere =
+        cases (eqb s (socketPlace w))
+        (λ e. let q : s ≡ socketPlace w = eqb-true s (socketPlace w) e in
+        let u : inUse (linkAt (τ .links) w .state) ≡ true = rw (← q, g .at .isOpen) in
+        rw (open-used side (τ .links) w i u))
+        (λ e. elsewhere (eqb-false s (socketPlace w) e))
+
+    closing-same : (w : Socket) → socket ≢ w → (s ≢ socketPlace w → getD (localClose side (τ .links) w .1) s noLink ≡ getD (τ .links) s noLink)
+        → getD (localClose side (τ .links) w .1) s noLink ≡ getD (τ .links) s noLink
+    closing-same w d elsewhere =
+        cases (eqb s (socketPlace w))
+        (λ e. let q : s ≡ socketPlace w = eqb-true s (socketPlace w) e in
+        cases (isSocket w (length (τ .links)))
+        (λ b. absurd (d (sym (socket-at socket (length (σ .links)) (P .socket)) ∙ ap socketAt q ∙ socket-at w (length (τ .links)) b)))
+        (λ b. rw (close-nowhere side (τ .links) w b)))
+        (λ e. elsewhere (eqb-false s (socketPlace w) e))
+
     turn : (c : Operation) → MayCome side σ socket m c → Turn l τ c
-    turn (receiving f) (inl h) = let r = of-cut id t octets (suc last) f h in takes f (r .index) (omega (arith, r .below)) (r .is)
+    turn (receiving f) (inl h) = let r = of-cut id t octets (suc last) f h in takes f h (r .index) (omega (arith, r .below)) (r .is)
     turn (receiving f) (inr h) = of (h .0)
       where
         of : (linkId f ≢ id) ⊎ (isOther (parsed f) ≡ true) → Turn l τ (receiving f)
         of (inl e) = other-link f (h .1) e
         of (inr e) = others f (h .1) e
     turn (opening w i) h =
-        let u : LocalCall side w (λ ls. localOpen side ls w i) = rw (h .1) (local-calls .opening w i) in
-        other (λ cs. refl) (local _ (open-count side (τ .links) w i) (u .keeps-good (τ .links) (g .at .notBad)) (record-same (u .leaves-others (τ .links) s (h .0))))
+        let u : LocalCall side w (λ ls. localOpen side ls w i) = rw h (local-calls .opening w i) in
+        other (λ cs. refl) (local _ (open-count side (τ .links) w i) (u .keeps-good (τ .links) (g .at .notBad)) (record-same (opening-same w i (u .leaves-others (τ .links) s))))
     turn (sending w n) h =
         let u = local-calls .sending side w n in
         other (λ cs. refl) (local _ (send-count side (τ .links) w n) (u .keeps-good (τ .links) (g .at .notBad))
         (send-after SameRecord same-record side (τ .links) w s n (λ l. record { state = refl; id = refl; last = refl; half = refl })))
     turn (closing w) h =
         let u = local-calls .closing side w in
-        other (λ cs. refl) (local _ (close-count side (τ .links) w) (u .keeps-good (τ .links) (g .at .notBad)) (record-same (u .leaves-others (τ .links) s h)))
+        other (λ cs. refl) (local _ (close-count side (τ .links) w) (u .keeps-good (τ .links) (g .at .notBad)) (record-same (closing-same w h (u .leaves-others (τ .links) s))))
 
   -- ---- to the end
 
@@ -248,7 +270,7 @@ module _ (side : Side) (σ : Station) (socket : Socket) (m : Message) (P : Prepa
     where
       of : Turn (sinceStart a) τ c → ((b : List ℕ) → Going (sinceStart b) (operate side τ c .1) → Going (sinceStart (b ++ brings id cs)) (afterAll side (operate side τ c .1) cs))
           → Going (sinceStart (a ++ brings id (c ∷ cs))) (afterAll side (operate side τ c .1) cs)
-      of (own f e k b _ n) r = rw (b cs, ← (append-snoc a k (brings id cs))) (r (a ++ (k ∷ [])) (rw (since-start-snoc a k) n))
+      of (own f _ e k b _ n) r = rw (b cs, ← (append-snoc a k (brings id cs))) (r (a ++ (k ∷ [])) (rw (since-start-snoc a k) n))
       of (other b n) r = rw (b cs) (r a n)
 
   -- the operation that delivers
@@ -257,11 +279,12 @@ module _ (side : Side) (σ : Station) (socket : Socket) (m : Message) (P : Prepa
     frame : List ℕ
     rest : List Operation
     split : cs ≡ before ++ (receiving frame ∷ rest)
+    ofCut : List·Memᴰ frame (messageFrames id t octets)
     delivered : received side (afterAll side τ before) frame .0 ≡ A.Delivered (length octets) t
 
   -- one operation before
   earlier : (τ : Station) (c : Operation) (cs : List Operation) → Delivers (operate side τ c .1) cs → Delivers τ (c ∷ cs)
-  earlier τ c cs d = record { before = c ∷ d .before; frame = d .frame; rest = d .rest; split = ap (λ (l : List Operation). c ∷ l) (d .split); delivered = d .delivered }
+  earlier τ c cs d = record { before = c ∷ d .before; frame = d .frame; rest = d .rest; split = ap (λ (l : List Operation). c ∷ l) (d .split); ofCut = d .ofCut; delivered = d .delivered }
 
   delivers : (a : List ℕ) (cs : List Operation) (τ : Station) → All (MayCome side σ socket m) cs → Going (sinceStart a) τ
       → complete last (sinceStart a) ≡ false → complete last (sinceStart (a ++ brings id cs)) ≡ true → Delivers τ cs
@@ -270,9 +293,9 @@ module _ (side : Side) (σ : Station) (socket : Socket) (m : Message) (P : Prepa
     where
       of : Turn (sinceStart a) τ c → ((b : List ℕ) → Going (sinceStart b) (operate side τ c .1) → complete last (sinceStart b) ≡ false
           → complete last (sinceStart (b ++ brings id cs)) ≡ true → Delivers (operate side τ c .1) cs) → Delivers τ (c ∷ cs)
-      of (own f e k b u v) r =
+      of (own f ofCut e k b u v) r =
           cases (complete last (sinceStart (a ++ (k ∷ []))))
-          (λ z. record { before = []; frame = f; rest = cs; split = ap (λ (o : Operation). o ∷ cs) e; delivered = u ∙ delivery-in octets t a k z n })
+          (λ z. record { before = []; frame = f; rest = cs; split = ap (λ (o : Operation). o ∷ cs) e; ofCut = ofCut; delivered = u ∙ delivery-in octets t a k z n })
           (λ z. earlier τ c cs (r (a ++ (k ∷ [])) (rw (since-start-snoc a k) v) z (rw (append-snoc a k (brings id cs), ← (b cs)) w)))
       of (other b v) r = earlier τ c cs (r a v n (rw (← (b cs)) w))
 
@@ -290,4 +313,4 @@ pub back : Back received
 back side σ s m P cs h comes =
     let w = all-come side σ s m P cs comes in
     let d = delivers side σ s m P [] cs σ h (starts side σ s m P) (complete-nil (segN (length (m .octets)))) w in
-    record { before = d .before; frame = d .frame; rest = d .rest; split = d .split; delivered = ap told (d .delivered); stands = stood side σ s m P cs h w }
+    record { before = d .before; frame = d .frame; rest = d .rest; split = d .split; ofCut = d .ofCut; delivered = ap told (d .delivered); stands = stood side σ s m P cs h w }

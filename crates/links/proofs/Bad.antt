@@ -18,7 +18,7 @@ use Rattle.links.specs.Marks.{isMarked, allMarked, noneAbove}
 use Rattle.links.specs.Links.{peer, sends, firstNumber, isLast, blankWith, inUse}
 use Rattle.links.specs.Good.{goodMessage, goodHalf, goodLast, isNothing, isEmpty, atRest, goodAs, goodLink, apart, allApart, good}
 use Rattle.links.specs.Station.{socketPlace, noLink, linkAt}
-use Rattle.links.specs.Bad.{InHalf, MessageNotBad, LinkNotBad, NotBad, BadStates}
+use Rattle.links.specs.Bad.{InHalf, sendsFrom, blankRecord, MessageNotBad, LinkNotBad, NotBad, BadStates}
 use Rattle.links.specs.declared.Side.{Side}
 use Rattle.links.specs.declared.Side.the-variants.{Provisioner, Device}
 use Rattle.links.specs.declared.LinkState.{LinkState}
@@ -129,13 +129,21 @@ empty-is : (half : HalfReceived) → isEmpty half ≡ true → half ≡ H.Nothin
 empty-is H.Nothing e = refl
 empty-is (H.Message h) e = absurd (false≢true e)
 
+-- blank by its definition and in words
+first-sent : (side : Side) → firstNumber side ≡ record { 0 = sendsFrom side }
+first-sent Provisioner = refl
+first-sent Device = refl
+
+pub blank-said : (side : Side) (state : LinkState) (id : ℕ) → blankWith side state id ≡ blankRecord side state id
+blank-said side state id = rw (first-sent side)
+
 -- a record that is blank but for its state and Link ID
-rest-is : (side : Side) (l : Link) (state : LinkState) → l .state ≡ state → atRest side l ≡ true → l ≡ blankWith side state (l .id)
+rest-is : (side : Side) (l : Link) (state : LinkState) → l .state ≡ state → atRest side l ≡ true → l ≡ blankRecord side state (l .id)
 rest-is side l state e h =
     let p = both-hold {a = eqb (l .next .0) (firstNumber side .0)} h in
     let q = both-hold {a = not (l .outstanding)} (p .1) in
     let r = both-hold {a = isNothing (l .last)} (q .1) in
-    let n = eqb-true (l .next .0) (firstNumber side .0) (p .0) in
+    let n : l .next .0 ≡ sendsFrom side = eqb-true (l .next .0) (firstNumber side .0) (p .0) ∙ ap (λ (t : TransactionNumber). t .0) (first-sent side) in
     λ i. record {
       state = e i;
       id = l .id;
@@ -145,13 +153,13 @@ rest-is side l state e h =
       half = empty-is (l .half) (r .1) i;
     }
 
-first-in-half : (side : Side) → InHalf side (firstNumber side)
+first-in-half : (side : Side) → InHalf side (record { 0 = sendsFrom side })
 first-in-half Provisioner = omega arith
 first-in-half Device = (omega arith, omega arith)
 
 -- a blank record has no number outside its half and no half-received message
-blank-not-bad : (side : Side) (l : Link) (state : LinkState) (id : ℕ) → l ≡ blankWith side state id
-    → (l .state ≡ S.Free → l ≡ blankWith side S.Free 0) → (l .state ≡ S.Opening → (side ≡ Provisioner) × (l ≡ blankWith side S.Opening (l .id)))
+blank-not-bad : (side : Side) (l : Link) (state : LinkState) (id : ℕ) → l ≡ blankRecord side state id
+    → (l .state ≡ S.Free → l ≡ blankRecord side S.Free 0) → (l .state ≡ S.Opening → (side ≡ Provisioner) × (l ≡ blankRecord side S.Opening (l .id)))
     → LinkNotBad side l
 blank-not-bad side l state id e free opening = record {
   free = free;
@@ -164,7 +172,7 @@ blank-not-bad side l state id e free opening = record {
 by-state : (side : Side) (l : Link) (state : LinkState) → l .state ≡ state → goodAs side state l ≡ true → LinkNotBad side l
 by-state side l S.Free e g =
     let p = both-hold {a = eqb (l .id) 0} g in
-    let b : l ≡ blankWith side S.Free 0 = rest-is side l S.Free e (p .1) ∙ ap (blankWith side S.Free) (eqb-true (l .id) 0 (p .0)) in
+    let b : l ≡ blankRecord side S.Free 0 = rest-is side l S.Free e (p .1) ∙ ap (blankRecord side S.Free) (eqb-true (l .id) 0 (p .0)) in
     blank-not-bad side l S.Free 0 b (λ _. b) (λ q. let z : _≡_ {A = ℕ} 0 1 = cc in absurd (omega arith))
 by-state Provisioner l S.Opening e g =
     let b = rest-is Provisioner l S.Opening e g in
@@ -190,7 +198,7 @@ half-good side last H.Nothing b = refl
 half-good side last (H.Message h) b = not-bad-message side last h (b h refl)
 
 good-by-state : (side : Side) (l : Link) (state : LinkState) → l .state ≡ state → LinkNotBad side l → goodLink side l ≡ true
-good-by-state side l S.Free e b = subst (λ (m : Link). goodLink side m ≡ true) (sym (b .free e)) (blank-good side)
+good-by-state side l S.Free e b = subst (λ (m : Link). goodLink side m ≡ true) (blank-said side S.Free 0 ∙ sym (b .free e)) (blank-good side)
 good-by-state side l S.Opening e b =
     let o = b .opening e in
     rw (o .0) (subst (λ (m : Link). goodLink Provisioner m ≡ true) (sym (rw (o .0) at (o .1))) refl)

@@ -1,5 +1,5 @@
 -- The four idle programs (`specs/Idle.antt`), at a station of one open link.
-use Prim.Native.Nat.{ℕ, zero, suc}
+use Prim.Native.Nat.{ℕ, zero, suc, _≤_}
 use native.Mathlib.Omega.{arith}
 use mathlib.Core.Bool.{Bool, true, false, _&&_}
 use mathlib.Core.List.{List, [], _∷_, List·Memᴰ, List·Memᴰ·head, List·Memᴰ·tail, List·Memᴰ·cases-cons, List·Memᴰ·not-nil, List·Memᴰ·eq-of-singleton}
@@ -7,9 +7,10 @@ use mathlib.Core.Logic.{_≢_, _⊎_, inl, inr}
 use mathlib.Core.Option.{some}
 use mathlib.Core.Path.{_≡_, refl, sym, ap, _∙_}
 use lib.Dec.{ltb}
-use lib.ListN.{getD, replicate}
+use lib.ListN.{length, getD, replicate}
 use borrow.Author.Tests.{ltb-true}
 use Rattle.octets.specs.Numbers.{Octets}
+use Rattle.octets.specs.Parts.{write}
 use Rattle.octets.specs.Cut.{piece, upTo}
 use Rattle.octets.specs.Told.{refused, answered}
 use Rattle.octets.proofs.Tests.{both-hold}
@@ -24,8 +25,8 @@ use Rattle.links.specs.Links.{findFrom, told}
 use Rattle.links.specs.Good.{good}
 use Rattle.links.specs.Station.{Station, socketPlace, getLink, linkAt}
 use Rattle.links.specs.Operations.{receiving, Receiver}
-use Rattle.links.specs.Demand3.{Message, Call, Ready, Premises, Right, First, Demand3}
-use Rattle.links.specs.Demand2.{Prepared, CutComes, GivenBack, Back}
+use Rattle.links.specs.Demand3.{Message, Call, Ready, cutAt, Premises, Right, First, Demand3}
+use Rattle.links.specs.Demand2.{own, Prepared, CutComes, GivenBack, Back}
 use Rattle.links.specs.Tables.{ReceivingTable}
 use Rattle.links.specs.Idle.{RefusesAll, AlwaysRepeats, StoresNothing, ServesFirst, IdlePrograms}
 use Rattle.links.specs.declared.Side.the-variants.{Provisioner}
@@ -54,14 +55,20 @@ short = record { number = record { 0 = 0x80 }; octets = 1 ∷ [] }
 abbrev whole : List ℕ
 whole = segmentFrame 0 (short .number) (short .octets) 0
 
-prepared : Prepared Provisioner station first short
+-- the link is ready for it, as for every message under this number
+prepared : (octets : List ℕ) → 1 ≤ length octets → length octets ≤ 1469 → Prepared Provisioner station first (record { number = record { 0 = 0x80 }; octets = octets })
 unfolding good getLink
-prepared = record {
+prepared octets one few = record {
   room = refl;
   notBad = refl;
   socket = refl;
-  ready = record { isOpen = refl; nothing = refl; awaited = record { notLast = refl }; number = refl; some-octets = omega arith; few-octets = omega arith };
+  ready = record { isOpen = refl; nothing = refl; awaited = record { notLast = refl }; number = refl; some-octets = one; few-octets = few };
 }
+
+-- whose only segment is this frame
+is-whole : List·Memᴰ whole (cutAt (own Provisioner station first short) short)
+unfolding getLink upTo
+is-whole = List·Memᴰ·head refl
 
 comes : CutComes Provisioner station first short (receiving whole ∷ [])
 unfolding getLink upTo
@@ -73,7 +80,7 @@ comes = record { before = []; since = []; split = refl; cut = λ f h. of f (List
 
 given-back : (receive : Receiver) → Back receive → GivenBack Provisioner station first short (receive Provisioner) (receiving whole ∷ [])
 unfolding getLink upTo
-given-back receive b = b Provisioner station first short prepared (receiving whole ∷ []) (inl (List·Memᴰ·head refl), tt) comes
+given-back receive b = b Provisioner station first short (prepared (1 ∷ []) (omega arith) (omega arith)) (receiving whole ∷ []) (inl is-whole, tt) comes
 
 refuses-all : (receive : Receiver) → RefusesAll receive → Back receive → ⊥
 refuses-all receive h b =
@@ -87,15 +94,24 @@ stores-nothing receive h b =
     let e : _≡_ {A = List ℕ} (0 ∷ []) (1 ∷ []) = rw (h Provisioner station whole) at (g .stands) in
     let z : _≡_ {A = ℕ} 0 1 = cc in omega arith
 
--- no area for no records is refused with 11
-abbrev wrong-area : Station
-wrong-area = record { links = []; area = 0 ∷ [] }
+abbrev all-octets : List ℕ → Bool
+all-octets [] = true
+all-octets (x ∷ l) = ltb x 256 && all-octets l
+
+octets-all : (l : List ℕ) → all-octets l ≡ true → Octets l
+octets-all [] e i = omega arith
+octets-all (x ∷ l) e zero = ltb-true x 256 (both-hold {a = ltb x 256} {b = all-octets l} e .0)
+octets-all (x ∷ l) e (suc i) = octets-all l (both-hold {a = ltb x 256} {b = all-octets l} e .1) i
+
+is-delivered : (receive : Receiver) → ReceivingTable receive → told (receive Provisioner station whole .0) ≡ answered "delivered" (1 ∷ 0x80 ∷ [])
+unfolding good findFrom getLink segmentFrame segmentOctets headerOf piece checkOctet octetStep bitStep isMarked withMark write
+is-delivered receive t =
+    let e : some (answered "delivered" (1 ∷ 0x80 ∷ [])) ≡ some (told (receive Provisioner station whole .0)) = t Provisioner station whole (octets-all whole refl) .first in
+    cc
 
 always-repeats : (receive : Receiver) → AlwaysRepeats receive → ReceivingTable receive → ⊥
 always-repeats receive h t =
-    let e : some (refused 11) ≡ some (answered "repeat" []) = t Provisioner wrong-area [] (λ i. omega arith) .first ∙ ap some (h Provisioner wrong-area []) in
-    let q : refused 11 ≡ answered "repeat" [] = cc in
-    other-told _ _ refl q
+    other-told _ _ refl (sym (is-delivered receive t) ∙ h Provisioner station first short (prepared (1 ∷ []) (omega arith) (omega arith)) whole is-whole)
 
 -- ---- a message of three segments
 
@@ -107,15 +123,6 @@ segment k = segmentFrame 0 (long .number) (long .octets) k
 
 abbrev brings : ℕ → Call
 brings k = record { socket = first; frame = segment k }
-
-abbrev all-octets : List ℕ → Bool
-all-octets [] = true
-all-octets (x ∷ l) = ltb x 256 && all-octets l
-
-octets-all : (l : List ℕ) → all-octets l ≡ true → Octets l
-octets-all [] e i = omega arith
-octets-all (x ∷ l) e zero = ltb-true x 256 (both-hold {a = ltb x 256} {b = all-octets l} e .0)
-octets-all (x ∷ l) e (suc i) = octets-all l (both-hold {a = ltb x 256} {b = all-octets l} e .1) i
 
 premises : Premises station (λ _. long) Provisioner
 unfolding good
@@ -162,9 +169,15 @@ is-kept receive t =
     let e : some (answered "kept" []) ≡ some (told (receive Provisioner station (segment 0) .0)) = t Provisioner station (segment 0) (octets-all (segment 0) refl) .first in
     cc
 
+first-stays : (receive : Receiver) → ServesFirst receive → told (receive Provisioner station (segment 0) .0) ≡ answered "kept" []
+    → receive Provisioner (receive Provisioner station (segment 0) .1) (segment 1) .1 ≡ receive Provisioner station (segment 0) .1
+unfolding getLink upTo
+first-stays receive h =
+    h Provisioner station first long (prepared (replicate 44 0) (omega arith) (omega arith)) (segment 0) (segment 1) (List·Memᴰ·head refl) (List·Memᴰ·tail (List·Memᴰ·head refl))
+
 serves-first : (receive : Receiver) → ServesFirst receive → ReceivingTable receive → Demand3 receive → ⊥
 serves-first receive h t d =
-    let stays = h Provisioner station (segment 0) (segment 1) (is-kept receive t) in
+    let stays = first-stays receive h (is-kept receive t) in
     let all = d Provisioner station (λ _. long) premises (brings 0 ∷ brings 1 ∷ brings 2 ∷ []) (right-0, (right-1, (right-2, tt))) in
     let two = d Provisioner station (λ _. long) premises (brings 0 ∷ brings 2 ∷ []) (right-0, (right-2, tt)) in
     third-early (two .onlyThen (brings 0 ∷ []) (brings 2) [] refl _ (rw stays at (all .due (brings 0 ∷ brings 1 ∷ []) (brings 2) [] refl third-due)))

@@ -2,7 +2,7 @@
 use Prim.Native.Nat.{ℕ, _-_}
 use mathlib.Core.Bool.{true, false, _&&_, cond}
 use mathlib.Core.List.{List}
-use mathlib.Core.Path.{_≡_, refl, sym}
+use mathlib.Core.Path.{_≡_, refl, sym, ap}
 use lib.Dec.{leb, eqb}
 use lib.ListN.{length, take}
 use borrow.Author.Tests.{eqb-true}
@@ -19,7 +19,8 @@ use Rattle.pb_adv.specs.declared.SegmentHeader.the-variants.{Start, Continuatio
 use Rattle.pb_adv.specs.declared.Parsed.{Parsed}
 use Rattle.pb_adv.proofs.Tables.{IsFrame, start, acknowledgement, continuation, opens, acks, closes}
 use Rattle.links.specs.Marks.{isMarked, withMark, allMarked}
-use Rattle.links.specs.Links.{peer, sends, isLast, withSending}
+use Rattle.links.specs.Links.{peer, sends, isLast, blank, withSending}
+use Rattle.links.specs.Bad.{blankRecord}
 use Rattle.links.specs.Segments.{OneLink, begun, entered, offered, onHalf, segmentStep}
 use Rattle.links.specs.Station.{setLink, acknowledgementStep, ackStep, frameStep}
 use Rattle.links.specs.Tables.{indexIn, octetsIn, checkIn, messageOf, leavesBy, leaves}
@@ -33,6 +34,7 @@ use Rattle.links.specs.declared.HalfReceived.the-variants as H
 use Rattle.links.specs.declared.Refusal.the-variants as R
 use Rattle.links.specs.declared.Answer.{Answer}
 use Rattle.links.specs.declared.Answer.the-variants as A
+use Rattle.links.proofs.Bad.{blank-said}
 
 module _ (side : Side) (x : OneLink) where
   -- ---- a segment
@@ -96,6 +98,10 @@ module _ (side : Side) (x : OneLink) where
         rw e (λ i. setLink x (withSending (x .link) (numberAfter (record { 0 = q i })) false)))
         (λ e. rw e)
 
+    -- a Close
+    closed-leaves : setLink x (blank side) ≡ setLink x (blankRecord side S.Free 0)
+    closed-leaves = ap (setLink x) (blank-said side S.Free 0)
+
     ack-leaves : (end : Side) → ackStep end x .1 ≡ leaves side x f (ackStep end x .0)
     ack-leaves Provisioner = refl
     ack-leaves Device = refl
@@ -108,10 +114,10 @@ module _ (side : Side) (x : OneLink) where
     frame-leaves S.Opening p (continuation k e) = refl
     frame-leaves S.Opening p (opens k e) = refl
     frame-leaves S.Opening p (acks k e) = refl
-    frame-leaves S.Opening p (closes k e) = refl
+    frame-leaves S.Opening p (closes k e) = closed-leaves
     frame-leaves S.Open p (start k e) = open-segment _ _ (start-leaves k (x .link .half))
     frame-leaves S.Open p (acknowledgement k) = cases (sends side (numberOf f)) (λ q. rw q acknowledged-leaves) (λ q. rw q)
     frame-leaves S.Open p (continuation k e) = open-segment _ _ (continuation-leaves k (x .link .half))
     frame-leaves S.Open p (opens k e) = refl
     frame-leaves S.Open p (acks k e) = ack-leaves side
-    frame-leaves S.Open p (closes k e) = refl
+    frame-leaves S.Open p (closes k e) = closed-leaves

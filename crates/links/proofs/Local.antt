@@ -62,6 +62,15 @@ module _ (side : Side) (ls : List Link) (socket : Socket) where
       judged-calls (isSocket socket (length ls)) _
       (λ r g. cases (inUse (linkAt ls socket .state)) (λ e. rw e (written r g refl refl)) (λ e. rw e (refusal R.NotOpen refl)))
 
+  -- an Open of a socket in use, and a Close of a socket that there isn't, change nothing
+  pub open-used : (id : ℕ) → inUse (linkAt ls socket .state) ≡ true → localOpen side ls socket id .1 ≡ ls
+  unfolding localOpen
+  open-used id u = cases (isSocket socket (length ls)) (λ r. rw r (cases (good side ls) (λ g. rw (g, u)) (λ g. rw g))) (λ r. rw r)
+
+  pub close-nowhere : isSocket socket (length ls) ≡ false → localClose side ls socket .1 ≡ ls
+  unfolding localClose
+  close-nowhere e = rw e
+
   -- whatever holds of the records as they were, and with that record written, holds afterwards
   holds : {C : Type 0} {a : Answer} {l : Link} {r : Answer × List Link} (P : List Link → Type 0) → P ls → P (withLink ls socket l) → Calls C a l r → P (r .1)
   holds P same changed (refusal q e) = rw e same

@@ -4,9 +4,9 @@ use native.Mathlib.Omega.{arith}
 use mathlib.Core.Bool.{true, false, _&&_, _||_, cond, not, false≢true}
 use mathlib.Core.List.{List, [], _∷_, _++_}
 use mathlib.Core.Option.{some}
-use mathlib.Core.Path.{_≡_, refl, sym, ap}
+use mathlib.Core.Path.{_≡_, refl, sym, ap, _∙_}
 use lib.Dec.{leb, ltb, eqb}
-use lib.ListN.{length, getD, take}
+use lib.ListN.{length, getD, set, take}
 use borrow.Author.Tests.{eq-eqb, ne-eqb, ltb-true, ltb-false}
 use Rattle.octets.specs.Numbers.{Octets}
 use Rattle.octets.specs.Parts.{part, write, same}
@@ -28,7 +28,7 @@ use Rattle.links.specs.Marks.{isMarked, withMark, allMarked}
 use Rattle.links.specs.Links.{peer, sends, isLast, inUse, findFrom, find, told}
 use Rattle.links.specs.Good.{goodAs, goodLink, good}
 use Rattle.links.specs.Segments.{OneLink, entered, offered, begun, onHalf, segmentStep}
-use Rattle.links.specs.Station.{Station, noLink, getLink, putLink, linkAt, isFound, isOpen, acknowledgementStep, ackStep, frameStep, atSocket, onFrame, received, localOpen, localSend, localClose}
+use Rattle.links.specs.Station.{Station, socketPlace, noLink, getLink, putLink, linkAt, isFound, isOpen, acknowledgementStep, ackStep, frameStep, atSocket, onFrame, received, localOpen, localSend, localClose}
 use Rattle.links.specs.Tables.{isFree, isIdInUse, linkFound, isOpening, notOpen, wrongDirection, notOutstanding, checkIn, hasLastNumber, isLastDelivered, messageOf, notBegun, isUnfit, otherOctets, isLastMissing, otherCheck, mismatches, wrongCheck, isComplete, isRepeat, receivingRows, ReceivingTable, leaves, ReceivingLeaves, openRows, sendRows, closeRows, LocalTables}
 use Rattle.links.specs.declared.Side.{Side}
 use Rattle.links.specs.declared.Side.the-variants.{Provisioner, Device}
@@ -47,6 +47,7 @@ use Rattle.links.specs.declared.Answer.the-variants as A
 use Rattle.links.proofs.Marks.{none-marked}
 use Rattle.links.proofs.Lens.{put-get, found-at, good-get}
 use Rattle.links.proofs.Local.{open-calls, send-calls, close-calls, written-by}
+use Rattle.links.proofs.Bad.{blank-said}
 use Rattle.links.proofs.Leaves.{frame-leaves}
 use Rattle.links.proofs.Keep.{good-as}
 
@@ -94,7 +95,7 @@ segmentRows x half f =
     ∷ refusal 6 (notBegun half f)
     ∷ refusal 7 (mismatches x half h f)
     ∷ refusal 8 (wrongCheck x h f)
-    ∷ reply "delivered" (h .length ∷ h .number .0 ∷ []) (isComplete x h f)
+    ∷ reply "delivered" (h .length ∷ h .number .0 ∷ []) (isComplete h f)
     ∷ reply "repeat" [] (isRepeat h f)
     ∷ reply "kept" [] (isSegment f)
     ∷ []
@@ -121,8 +122,8 @@ linkRows side x state f =
 -- the rows from 8 on of segment k
 abbrev enteredRows : OneLink → HalfMessage → ℕ → List ℕ → List Row → List Row
 enteredRows x h k d rest =
-    refusal 8 (isLastMissing x h k d && otherCheck x h k d)
-    ∷ reply "delivered" (h .length ∷ h .number .0 ∷ []) (isLastMissing x h k d)
+    refusal 8 (isLastMissing h k && otherCheck x h k d)
+    ∷ reply "delivered" (h .length ∷ h .number .0 ∷ []) (isLastMissing h k)
     ∷ reply "repeat" [] (isMarked (h .marks) k)
     ∷ reply "kept" [] true
     ∷ rest
@@ -135,7 +136,7 @@ module _ (x : OneLink) (h : HalfMessage) (k : ℕ) (d : List ℕ) (rest : List R
       (λ e. rw e (cases (eqb (checkOctet (take (h .length) (write (x .part) (segmentPlace k) d))) (h .check)) (λ c. rw c) (λ c. rw c)))
       (λ e. rw e))
 
-  offered-row : firstOf (refusal 7 (isUnfit x h k d || otherOctets x h k d) ∷ enteredRows x h k d rest) ≡ some (told (offered x h k d .0))
+  offered-row : firstOf (refusal 7 (isUnfit h k d || otherOctets x h k d) ∷ enteredRows x h k d rest) ≡ some (told (offered x h k d .0))
   unfolding offered
   offered-row =
       cases (leb k (segN (h .length)) && eqb (length d) (segmentLength (h .length) k))
@@ -341,7 +342,7 @@ local-tables side ls s = record {
   opening = λ id. by-table (told (localOpen side ls s id .0)) (openRows side ls s id) refl (open-first side ls s id);
   sending = λ n. by-table (told (localSend side ls s n .0)) (sendRows side ls s n) refl (send-first side ls s n);
   closing = by-table (told (localClose side ls s .0)) (closeRows side ls s) refl (close-first side ls s);
-  opened = λ id. written-by side ls s (open-calls side ls s id) "done" [];
+  opened = λ id h. written-by side ls s (open-calls side ls s id) "done" [] h ∙ ap (set ls (socketPlace s)) (blank-said side S.Opening id);
   sent = λ n. written-by side ls s (send-calls side ls s n) "sending";
-  closed = written-by side ls s (close-calls side ls s) "done" [];
+  closed = λ h. written-by side ls s (close-calls side ls s) "done" [] h ∙ ap (set ls (socketPlace s)) (blank-said side S.Free 0);
 }

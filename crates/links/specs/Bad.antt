@@ -11,11 +11,12 @@ use Rattle.transactions.specs.Segments.{segN}
 use Rattle.transactions.specs.declared.TransactionNumber.{TransactionNumber}
 use Rattle.transactions.specs.declared.Socket.{Socket}
 use Rattle.links.specs.Marks.{isMarked}
-use Rattle.links.specs.Links.{peer, blank, blankWith}
+use Rattle.links.specs.Links.{peer}
 use Rattle.links.specs.Good.{good}
 use Rattle.links.specs.Station.{linkAt}
 use Rattle.links.specs.declared.Side.{Side}
 use Rattle.links.specs.declared.Side.the-variants.{Provisioner, Device}
+use Rattle.links.specs.declared.LinkState.{LinkState}
 use Rattle.links.specs.declared.LinkState.the-variants as S
 use Rattle.links.specs.declared.LastDelivered.{LastDelivered}
 use Rattle.links.specs.declared.LastDelivered.the-variants as L
@@ -28,6 +29,15 @@ abbrev pub InHalf : Side → TransactionNumber → Type 0
 InHalf Provisioner t = t .0 ≤ 0x7F
 InHalf Device t = (0x80 ≤ t .0) × (t .0 ≤ 0xFF)
 
+-- the first of them
+abbrev pub sendsFrom : Side → ℕ
+sendsFrom Provisioner = 0x00
+sendsFrom Device = 0x80
+
+-- "Blank is: [..] sending from 0x00, nothing outstanding, last delivered or half-received", in a state and with a Link ID
+abbrev pub blankRecord : Side → LinkState → ℕ → Link
+blankRecord side state id = record { state = state; id = id; next = record { 0 = sendsFrom side }; outstanding = false; last = L.Nothing; half = H.Nothing }
+
 -- bad is "a half-received message without segment 0, with none missing, with L or marks out of range, or numbered as the last delivered"
 pub record MessageNotBad (side : Side) (last : LastDelivered) (h : HalfMessage) : Type 0 where
   pub number : InHalf (peer side) (h .number)
@@ -38,9 +48,9 @@ pub record MessageNotBad (side : Side) (last : LastDelivered) (h : HalfMessage) 
   pub new : last ≢ L.Number (h .number)
 
 pub record LinkNotBad (side : Side) (l : Link) : Type 0 where
-  -- "a free or opening record otherwise not blank"; the device's end has none that is opening
-  pub free : l .state ≡ S.Free → l ≡ blank side
-  pub opening : l .state ≡ S.Opening → (side ≡ Provisioner) × (l ≡ blankWith side S.Opening (l .id))
+  -- "a free or opening record otherwise not blank", "Link ID 0 if free"; the device's end has none that is opening
+  pub free : l .state ≡ S.Free → l ≡ blankRecord side S.Free 0
+  pub opening : l .state ≡ S.Opening → (side ≡ Provisioner) × (l ≡ blankRecord side S.Opening (l .id))
   -- "a number outside its half"
   pub next : InHalf side (l .next)
   pub last : (t : TransactionNumber) → l .last ≡ L.Number t → InHalf (peer side) t

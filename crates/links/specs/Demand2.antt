@@ -1,6 +1,6 @@
 -- DEMAND 2 over a link: a message cut and received comes back, and a delivery comes only from the exact cut of what is delivered. The proofs
 -- are `proofs/Back.antt`, `proofs/Only.antt` and `proofs/Opened.antt`.
-use Prim.Native.Nat.{ℕ, _*_}
+use Prim.Native.Nat.{ℕ}
 use mathlib.Core.Bool.{Bool, true, false}
 use mathlib.Core.List.{List, [], _∷_, _++_, List·Memᴰ}
 use mathlib.Core.Logic.{_≢_, _⊎_}
@@ -21,7 +21,7 @@ use Rattle.links.specs.Segments.{OneLink}
 use Rattle.links.specs.Station.{Station, socketPlace, ofSocket, received}
 use Rattle.links.specs.Interleaving.{All, stateAfter, BeforeEach}
 use Rattle.links.specs.Operations.{Operation, receiving, opening, sending, closing, ReceivingStep, Receiver, operateBy, operate, afterAll, OfOctets}
-use Rattle.links.specs.Promises.{addressed}
+use Rattle.links.specs.Promises.{Sized, addressed}
 use Rattle.links.specs.Demand3.{Message, Ready, cutAt}
 use Rattle.links.specs.declared.Side.{Side}
 use Rattle.links.specs.declared.Side.the-variants.{Provisioner}
@@ -33,7 +33,7 @@ use Rattle.links.specs.declared.Found.the-variants.{At}
 
 -- ---- back: "A message cut and received gives that message back, on a link under 3's premises [..] in a state that isn't bad"
 
--- a frame that is neither a segment nor a Close
+-- octets that are neither a segment nor a Close
 abbrev pub isOther : Parsed → Bool
 isOther (P.Segment s) = false
 isOther (P.Acknowledgement id t) = true
@@ -48,18 +48,18 @@ module _ (side : Side) (σ : Station) (s : Socket) (m : Message) where
 
   -- 3's premises for the link of socket s; the other links are in any state that isn't bad
   pub record Prepared : Type 0 where
-    pub room : length (σ .area) ≡ 1469 * length (σ .links)
+    pub room : Sized σ
     pub notBad : good side (σ .links) ≡ true
     pub socket : isSocket s (length (σ .links)) ≡ true
     pub ready : Ready side own m
 
   -- what may come: frames of the cut, and in between any octets with another Link ID, any octets but segments and Closes with the link's own, any
-  -- local Send, and the local Opens (of the provisioner's end, the other has none) and Closes of other sockets
+  -- local Open (of the provisioner's end, the other has none), any local Send, and the local Closes of other sockets
   abbrev pub MayCome : Operation → Type 0
   MayCome (receiving f) = List·Memᴰ f (cutAt own m) ⊎ (((linkId f ≢ own .id) ⊎ (isOther (parsed f) ≡ true)) × Octets f)
-  MayCome (opening socket id) = (socketPlace s ≢ socketPlace socket) × (side ≡ Provisioner)
+  MayCome (opening socket id) = side ≡ Provisioner
   MayCome (sending socket n) = Unit {0}
-  MayCome (closing socket) = socketPlace s ≢ socketPlace socket
+  MayCome (closing socket) = s ≢ socket
 
   -- every frame of the cut comes at or after a Start
   pub record CutComes (operations : List Operation) : Type 0 where
@@ -68,13 +68,14 @@ module _ (side : Side) (σ : Station) (s : Socket) (m : Message) where
     pub split : operations ≡ before ++ (receiving (segmentFrame (own .id) (m .number) (m .octets) 0) ∷ since)
     pub cut : (f : List ℕ) → List·Memᴰ f (cutAt own m) → List·Memᴰ (receiving f) (receiving (segmentFrame (own .id) (m .number) (m .octets) 0) ∷ since)
 
-  -- the message is given back: one of the operations answers "delivered" with its length and number, and its octets stand at the start of the
+  -- the message is given back: a frame of its cut is answered "delivered" with its length and number, and its octets stand at the start of the
   -- socket's part at the end
   pub record GivenBack (step : ReceivingStep) (operations : List Operation) : Type 0 where
     pub before : List Operation
     pub frame : List ℕ
     pub rest : List Operation
     pub split : operations ≡ before ++ (receiving frame ∷ rest)
+    pub ofCut : List·Memᴰ frame (cutAt own m)
     pub delivered : told (step (stateAfter (operateBy step side) σ before) frame .0) ≡ answered "delivered" (length (m .octets) ∷ m .number .0 ∷ [])
     pub stands : take (length (m .octets)) (ofSocket s (stateAfter (operateBy step side) σ operations) .part) ≡ m .octets
 

@@ -1,6 +1,6 @@
 -- DEMAND 3, as one claim about a list of receiving calls, over any number of links and either side. The proof is `proofs/Demand3.antt`. The claim is
 -- stated of any receiver; document 01's rules, `received`, meet it.
-use Prim.Native.Nat.{ℕ, _*_, _≤_}
+use Prim.Native.Nat.{ℕ, _≤_}
 use mathlib.Core.Bool.{true, cond}
 use mathlib.Core.List.{List, [], _∷_, _++_, map, List·Memᴰ}
 use mathlib.Core.Path.{_≡_}
@@ -15,6 +15,7 @@ use Rattle.pb_adv_writing.specs.Writing.{messageFrames}
 use Rattle.links.specs.Links.{peer, sends, Awaits, told}
 use Rattle.links.specs.Good.{good}
 use Rattle.links.specs.Station.{Station, socketPlace, ofSocket, linkAt}
+use Rattle.links.specs.Promises.{Sized}
 use Rattle.links.specs.Interleaving.{withKey, inTurn, All, stateAfter, answers, keyOf}
 use Rattle.links.specs.Operations.{ReceivingStep, Receiver}
 use Rattle.links.specs.declared.Side.{Side}
@@ -74,7 +75,7 @@ module _ (σ : Station) (message : Socket → Message) where
 
   -- "Eight open links with different Link IDs, in a state that isn't bad, whatever the lent area holds, no half-received message on any"
   pub record Premises (side : Side) : Type 0 where
-    pub room : length (σ .area) ≡ 1469 * length (σ .links)
+    pub room : Sized σ
     pub notBad : good side (σ .links) ≡ true
     pub ready : (s : Socket) → isSocket s (length (σ .links)) ≡ true → Ready side (linkOf s) (message s)
 

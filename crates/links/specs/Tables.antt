@@ -1,11 +1,12 @@
 -- DOCUMENT 01'S TABLE of a receiving call: each answer with what it is given for, in the order of the checks; and the tables of the local calls. Rows
--- speak of the frame's octets and of the records, not of the definitions of the rules. The proofs are `proofs/Tables.antt`.
+-- are written from the frame's octets and the records, and not by the tests of the rules, so that a changed test is refused. The proofs are
+-- `proofs/Tables.antt`.
 use Prim.Native.Nat.{ℕ, _*_, _-_}
 use mathlib.Core.Bool.{Bool, true, false, _&&_, _||_, cond, not}
 use mathlib.Core.List.{List, [], _∷_}
 use mathlib.Core.Path.{_≡_}
 use lib.Dec.{leb, ltb, eqb}
-use lib.ListN.{length, getD, take}
+use lib.ListN.{length, getD, set, take}
 use Rattle.octets.specs.Numbers.{Octets}
 use Rattle.octets.specs.Parts.{part, write, same}
 use Rattle.octets.specs.Cut.{piece}
@@ -18,10 +19,12 @@ use Rattle.transactions.specs.declared.Socket.{Socket}
 use Rattle.pb_adv.specs.Frame.{linkId, numberOf, highBits}
 use Rattle.pb_adv.specs.Tables.{isKind, isControl, isSegment, lengthIn, malformed, unknownOpcode}
 use Rattle.links.specs.Marks.{isMarked, withMark, allMarked}
-use Rattle.links.specs.Links.{blank, blankWith, withState, withReceived, withSending, find, refusalNumber, told}
+use Rattle.links.specs.Links.{find, refusalNumber, told}
 use Rattle.links.specs.Good.{good}
+use Rattle.links.specs.Bad.{blankRecord}
 use Rattle.links.specs.Segments.{OneLink, marked, begun}
-use Rattle.links.specs.Station.{Station, getLink, putLink, setLink, received, linkAt, withLink, localOpen, localSend, localClose}
+use Rattle.links.specs.Station.{Station, socketPlace, getLink, putLink, received, linkAt, localOpen, localSend, localClose}
+use Rattle.links.specs.Promises.{Sized}
 use Rattle.links.specs.Operations.{Receiver}
 use Rattle.links.specs.declared.Side.{Side}
 use Rattle.links.specs.declared.Side.the-variants.{Provisioner, Device}
@@ -129,38 +132,36 @@ notBegun half f = isKind 2 f && not (hasNumber half f)
 abbrev pub otherStart : HalfMessage → List ℕ → Bool
 otherStart h f = isKind 0 f && not (eqb (h .length) (lengthIn f) && eqb (h .check) (checkIn f))
 
--- segment k with octets d, of a message of which h says what is in
-module _ (x : OneLink) (h : HalfMessage) (k : ℕ) (d : List ℕ) where
-  -- "segment above SegN; wrong segment length"
-  abbrev pub isUnfit : Bool
-  isUnfit = not (leb k (segN (h .length)) && eqb (length d) (segmentLength (h .length) k))
+-- of a segment k with octets d, where h says what is in of its message: "segment above SegN; wrong segment length"
+abbrev pub isUnfit : HalfMessage → ℕ → List ℕ → Bool
+isUnfit h k d = not (leb k (segN (h .length)) && eqb (length d) (segmentLength (h .length) k))
 
-  -- other "octets in a repeat": unlike those at the segment's place
-  abbrev pub otherOctets : Bool
-  otherOctets = isMarked (h .marks) k && not (same (piece segmentPlace (h .length) (x .part) k) d)
+-- other "octets in a repeat": unlike those at the segment's place
+abbrev pub otherOctets : OneLink → HalfMessage → ℕ → List ℕ → Bool
+otherOctets x h k d = isMarked (h .marks) k && not (same (piece segmentPlace (h .length) (x .part) k) d)
 
-  -- "the last missing segment is in"
-  abbrev pub isLastMissing : Bool
-  isLastMissing = not (isMarked (h .marks) k) && allMarked (segN (h .length)) (withMark (h .marks) k)
+-- "the last missing segment is in"
+abbrev pub isLastMissing : HalfMessage → ℕ → Bool
+isLastMissing h k = not (isMarked (h .marks) k) && allMarked (segN (h .length)) (withMark (h .marks) k)
 
-  -- "the check octet differs", over the message with the segment at its place
-  abbrev pub otherCheck : Bool
-  otherCheck = not (eqb (checkOctet (take (h .length) (write (x .part) (segmentPlace k) d))) (h .check))
+-- "the check octet differs", over the message with the segment at its place
+abbrev pub otherCheck : OneLink → HalfMessage → ℕ → List ℕ → Bool
+otherCheck x h k d = not (eqb (checkOctet (take (h .length) (write (x .part) (segmentPlace k) d))) (h .check))
 
 -- "same number, but other L, check or octets in a repeat; segment above SegN; wrong segment length"
 abbrev pub mismatches : OneLink → HalfReceived → HalfMessage → List ℕ → Bool
 mismatches x half h f =
-    isSegment f && (hasNumber half f && (otherStart h f || (isUnfit x h (indexIn f) (octetsIn f) || otherOctets x h (indexIn f) (octetsIn f))))
+    isSegment f && (hasNumber half f && (otherStart h f || (isUnfit h (indexIn f) (octetsIn f) || otherOctets x h (indexIn f) (octetsIn f))))
 
 -- "the last missing segment is in and the check octet differs"
 abbrev pub wrongCheck : OneLink → HalfMessage → List ℕ → Bool
-wrongCheck x h f = isSegment f && (isLastMissing x h (indexIn f) (octetsIn f) && otherCheck x h (indexIn f) (octetsIn f))
+wrongCheck x h f = isSegment f && (isLastMissing h (indexIn f) && otherCheck x h (indexIn f) (octetsIn f))
 
--- "a message complete and checked"
-abbrev pub isComplete : OneLink → HalfMessage → List ℕ → Bool
-isComplete x h f = isSegment f && isLastMissing x h (indexIn f) (octetsIn f)
+-- "a message complete", and checked where 8 was not given
+abbrev pub isComplete : HalfMessage → List ℕ → Bool
+isComplete h f = isSegment f && isLastMissing h (indexIn f)
 
--- "a repeat with equal octets"
+-- "a repeat", with equal octets where 7 was not given
 abbrev pub isRepeat : HalfMessage → List ℕ → Bool
 isRepeat h f = isSegment f && isMarked (h .marks) (indexIn f)
 
@@ -186,7 +187,7 @@ receivingRows side σ f =
     ∷ refusal 8 (wrongCheck x h f)
     -- "A message complete and checked answers 'delivered' with length and number", "a repeat with equal octets answers 'repeat'", "a new segment that
     -- leaves others missing answers 'kept'"
-    ∷ reply "delivered" (h .length ∷ h .number .0 ∷ []) (isComplete x h f)
+    ∷ reply "delivered" (h .length ∷ h .number .0 ∷ []) (isComplete h f)
     ∷ reply "repeat" [] (isRepeat h f)
     ∷ reply "kept" [] (isSegment f)
     -- "An awaited acknowledgement .. answers 'acknowledged'."
@@ -205,24 +206,37 @@ ReceivingTable receive = (side : Side) (σ : Station) (f : List ℕ) → Octets 
 
 -- segment k with octets d, of a message of which h says what is in
 module _ (side : Side) (x : OneLink) (h : HalfMessage) (k : ℕ) (d : List ℕ) where
-  -- the record, with its segment written at "place 20 + 23(k - 1)", segment 0 "to the start of the socket's part"
-  abbrev pub withSegment : Link → OneLink
-  withSegment l = record { link = l; part = write (x .part) (segmentPlace k) d }
+  abbrev pub before : Link
+  before = x .link
+
+  -- a record with the part as it was
+  abbrev pub partStays : Link → OneLink
+  partStays l = record { link = l; part = x .part }
+
+  -- a segment leaves of the record all but the last delivered number and the half-received message; its octets stand at "place 20 + 23(k - 1)", those
+  -- of segment 0 at "the start of the socket's part"
+  abbrev pub withSegment : LastDelivered → HalfReceived → OneLink
+  withSegment last half = record {
+    link = record { state = before .state; id = before .id; next = before .next; outstanding = before .outstanding; last = last; half = half };
+    part = write (x .part) (segmentPlace k) d;
+  }
 
   abbrev pub leavesBy : Answer → OneLink
   -- "Refusal 8 clears it too, the octets, the last segment's among them, stay written, and the last delivered number stays. Every other refusal
   -- changes nothing."
-  leavesBy (A.Refused r) = cond (eqb (refusalNumber r) 8) (withSegment (withReceived (x .link) (x .link .last) H.Nothing)) x
+  leavesBy (A.Refused r) = cond (eqb (refusalNumber r) 8) (withSegment (before .last) H.Nothing) x
   leavesBy A.AcknowledgeAgain = x
-  leavesBy A.Kept = withSegment (withReceived (x .link) (x .link .last) (H.Message (marked h k)))
+  leavesBy A.Kept = withSegment (before .last) (H.Message (marked h k))
   leavesBy A.Repeat = x
   -- "the half-received record is cleared"; the number is the last delivered
-  leavesBy (A.Delivered n t) = withSegment (withReceived (x .link) (L.Number t) H.Nothing)
-  leavesBy A.Opened = setLink x (withState (x .link) S.Open)
+  leavesBy (A.Delivered n t) = withSegment (L.Number t) H.Nothing
+  leavesBy A.Opened =
+      partStays (record { state = S.Open; id = before .id; next = before .next; outstanding = before .outstanding; last = before .last; half = before .half })
   leavesBy A.Already = x
-  leavesBy (A.Closed reason) = setLink x (blank side)
+  leavesBy (A.Closed reason) = partStays (blankRecord side S.Free 0)
   -- it "clears the outstanding mark, steps the number"
-  leavesBy A.Acknowledged = setLink x (withSending (x .link) (numberAfter (x .link .next)) false)
+  leavesBy A.Acknowledged =
+      partStays (record { state = before .state; id = before .id; next = numberAfter (before .next); outstanding = false; last = before .last; half = before .half })
   -- answers of the local calls
   leavesBy (A.Sending t n) = x
   leavesBy A.Done = x
@@ -233,7 +247,7 @@ leaves side x f a = leavesBy side x (messageOf (x .link .half) f) (indexIn f) (o
 -- past 11 and 14
 abbrev pub ReceivingLeaves : Type 0
 ReceivingLeaves =
-    (side : Side) (σ : Station) (f : List ℕ) → length (σ .area) ≡ 1469 * length (σ .links) → good side (σ .links) ≡ true
+    (side : Side) (σ : Station) (f : List ℕ) → Sized σ → good side (σ .links) ≡ true
     → (s : ℕ) → find (σ .links) (linkId f) ≡ At s → received side σ f .1 ≡ putLink s (leaves side (getLink s σ) f (received side σ f .0)) σ
 
 -- ---- the local calls
@@ -275,12 +289,17 @@ closeRows side ls s =
     ∷ reply "done" [] true
     ∷ []
 
+-- a record with one message outstanding
+abbrev pub withMarkSet : Link → Link
+withMarkSet l = record { state = l .state; id = l .id; next = l .next; outstanding = true; last = l .last; half = l .half }
+
 pub record LocalTables (side : Side) (ls : List Link) (s : Socket) : Type 0 where
   pub opening : (id : ℕ) → ByTable (told (localOpen side ls s id .0)) (openRows side ls s id)
   pub sending : (n : ℕ) → ByTable (told (localSend side ls s n .0)) (sendRows side ls s n)
   pub closing : ByTable (told (localClose side ls s .0)) (closeRows side ls s)
-  -- an Open leaves an opening record, a Send "sets the mark", a Close "frees the record"
-  pub opened : (id : ℕ) → told (localOpen side ls s id .0) ≡ answered "done" [] → localOpen side ls s id .1 ≡ withLink ls s (blankWith side S.Opening id)
+  -- an Open leaves an opening record, a Send "sets the mark", a Close "frees the record"; no other record changes
+  pub opened : (id : ℕ) → told (localOpen side ls s id .0) ≡ answered "done" []
+      → localOpen side ls s id .1 ≡ set ls (socketPlace s) (blankRecord side S.Opening id)
   pub sent : (n : ℕ) (values : List ℕ) → told (localSend side ls s n .0) ≡ answered "sending" values
-      → localSend side ls s n .1 ≡ withLink ls s (withSending (linkAt ls s) (linkAt ls s .next) true)
-  pub closed : told (localClose side ls s .0) ≡ answered "done" [] → localClose side ls s .1 ≡ withLink ls s (blank side)
+      → localSend side ls s n .1 ≡ set ls (socketPlace s) (withMarkSet (linkAt ls s))
+  pub closed : told (localClose side ls s .0) ≡ answered "done" [] → localClose side ls s .1 ≡ set ls (socketPlace s) (blankRecord side S.Free 0)

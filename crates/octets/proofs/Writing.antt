@@ -11,9 +11,9 @@ use borrow.Author.Tests.{leb-true, le-leb, lt-leb, ltb-true, ltb-false}
 use Rattle.octets.specs.Parts.{write}
 use Rattle.octets.specs.Told.{answered}
 use Rattle.octets.specs.Writing.{told, isWritten, written, outputAfter}
-use Rattle.octets.specs.Promises.{RefusalKeeps, writerRows, WriterTable}
+use Rattle.octets.specs.Promises.{RefusalKeeps, WritesFront, writerRows, WriterTable}
 use Rattle.octets.specs.declared.Written.the-variants.{Count, WrongArgument}
-use Rattle.octets.proofs.Parts.{write-front}
+use Rattle.octets.proofs.Parts.{write-front, write-start}
 use Rattle.octets.proofs.Tables.{by-table}
 use Rattle.octets.proofs.Tests.{cases, both-hold}
 
@@ -36,6 +36,11 @@ pub refusal-keeps : RefusalKeeps
 unfolding written outputAfter
 refusal-keeps right d output n =
     cases (isWritten right d output) (λ e. rw e (λ q. let z : _≡_ {A = ℕ} 0 1 = cc in absurd (omega arith))) (λ e. rw e (λ q. refl))
+
+pub writes-front : WritesFront
+unfolding written outputAfter
+writes-front right d output values =
+    cases (isWritten right d output) (λ e. rw e (λ q. write-start output d)) (λ e. rw e (λ q. let z : _≡_ {A = ℕ} 0 1 = cc in absurd (omega arith)))
 
 -- octets that were written: the arguments were right, and they stand at the start of the output
 pub wrote : (right : Bool) (d output : List ℕ) (n : ℕ) → told (written right d output) ≡ answered "written" (n ∷ []) → (right ≡ true) × (take n (outputAfter right d output) ≡ d)

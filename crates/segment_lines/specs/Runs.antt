@@ -53,15 +53,14 @@ first input line output = record {
   text = [];
 }
 
--- what the program has done: a run to the end of the input, or of 2^64 - 1 turns, that left the buffers as they are; then what still waited was
--- written out. A program that takes no turn must make up the system's answer, as that nothing was read: that no contract can rule out.
+-- what the program has done: a run to the end of the input, or of 2^64 - 1 turns, that left the buffers as they are; then nothing waits any more. A
+-- program that takes no turn must make up the system's answer, as that nothing was read: that no contract can rule out.
 pub record Ran (input line output : List ℕ) (r : Progress) (inputAfter lineAfter outputAfter : List ℕ) : Type 0 where
-  pub last : Progress
-  pub run : RunsTo program (first input line output) (stateOf last inputAfter lineAfter outputAfter) 0
-  pub flushed : Flushed (last .streams) outputAfter (r .streams)
-  pub none : r .streams .waiting ≡ 0
-  pub held : r .held ≡ last .held
-  pub number : r .number ≡ last .number
+  pub afterTurns : Progress
+  pub run : RunsTo program (first input line output) (stateOf afterTurns inputAfter lineAfter outputAfter) 0
+  pub flushed : Flushed (afterTurns .streams) outputAfter (r .streams)
+  pub held : r .held ≡ afterTurns .held
+  pub number : r .number ≡ afterTurns .number
 
 -- ---- its text
 
@@ -77,9 +76,9 @@ WholeOutput =
     → (n : ℕ) (x : Reading) (text : List ℕ) (σ : State) → Runs program (first input line output) n x text σ → σ .progress .streams .found ≡ false
     → text ≡ textFrom firstNumber (linesOf (joined (x .read)))
 
--- the same of what `run` has done, where nothing more was found; and what it wrote out last is the end of that text
+-- the same of what `run` has done, where nothing more was found; and what waited before its last writing out is the end of that text
 abbrev pub WholeRun : Type 0
 WholeRun =
     (input line output : List ℕ) → length line ≡ 2939 → 3776 ≤ length output
     → (r : Progress) (inputAfter lineAfter outputAfter : List ℕ) (ran : Ran input line output r inputAfter lineAfter outputAfter) → r .streams .found ≡ false
-    → (ran .run .text ≡ textFrom firstNumber (linesOf (joined (ran .run .reading .read)))) × EndWaits (ran .run .text) (ran .last .streams) outputAfter
+    → (ran .run .text ≡ textFrom firstNumber (linesOf (joined (ran .run .reading .read)))) × EndWaits (ran .run .text) (ran .afterTurns .streams) outputAfter

@@ -3,6 +3,7 @@ use hex_lines::LineWritten;
 use lines::Streams;
 use transactions::TransactionNumber;
 ghost use Prim.Native.Nat.{_≤_};
+ghost use mathlib.Core.Path.{_≡_};
 ghost use lib.ListN.{length};
 ghost use Rattle.segment_lines.specs.Turns.{PieceHeld, LineEnded, Turn};
 ghost use Rattle.segment_lines.specs.Runs.{Ran};
@@ -71,7 +72,7 @@ fn take_turn(progress: Progress, input: &mut [u8], line: &mut [u8], output: &mut
 
 // Takes turns to the end of the input, and writes out what still waits. What it then has is handed back so that the contract can speak of it.
 fn run(input: &mut [u8], line: &mut [u8], output: &mut [u8]) -> Progress
-    requires { ⌜ 3776 ≤ length (now output) ⌝ }
+    requires { ⌜ (length (now line) ≡ 2939) × (3776 ≤ length (now output)) ⌝ }
     ensures { λ r. ⌜ Ran (now (input .entry)) (now (line .entry)) (now (output .entry)) r (now (input .exit)) (now (line .exit)) (now (output .exit)) ⌝ }
 {
     let mut progress = Progress {

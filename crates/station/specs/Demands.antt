@@ -1,5 +1,6 @@
 -- THE DEMANDS OF THE STATION: demand 2 in both halves and demand 3 for eight sockets, numbered 1 to 8, and one lent area of 11,752 octets, of the
--- receiving call that a host makes. Each is the statement of `links` at eight links. The proofs are `proofs/Demands.antt`.
+-- receiving call that a host makes; and document 01's receiving table for it. What may come, is given back, came by its cut, is right and is claimed is
+-- said in `links`, `specs/Demand2.antt` and `Demand3.antt`. The proofs are `proofs/Demands.antt`.
 use Prim.Native.Nat.{ℕ, _≤_}
 use mathlib.Core.Bool.{true}
 use mathlib.Core.List.{List}

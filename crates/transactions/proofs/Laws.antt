@@ -1,9 +1,9 @@
--- Laws of SegN and of the places of segments, and of sockets in range.
-use Prim.Native.Nat.{ℕ, _+_, _*_, _≤_, _<_}
+-- Laws of numbers in turn, of SegN and of the places of segments, and of sockets in range.
+use Prim.Native.Nat.{ℕ, _+_, _*_, _/_, _%_, _≤_, _<_}
 use native.Mathlib.Omega.{arith}
 use mathlib.Core.Bool.{true}
 use mathlib.Core.List.{List}
-use mathlib.Core.Path.{_≡_, refl}
+use mathlib.Core.Path.{_≡_, refl, ap}
 use lib.ListN.{length}
 use Rattle.octets.proofs.Cut.{place-up, last-enough, last-least, piece-length, piece-begins}
 use borrow.Author.Tests.{le-leb, leb-true}
@@ -11,6 +11,14 @@ use Rattle.octets.proofs.Tests.{both-hold}
 use Rattle.transactions.specs.Numbers.{isSocket}
 use Rattle.transactions.specs.declared.Socket.{Socket}
 use Rattle.transactions.specs.Segments.{segN, segmentPlace, segmentLength, segment}
+use Rattle.transactions.specs.Promises.{number, NumbersInTurn}
+
+pub numbers-in-turn : NumbersInTurn
+numbers-in-turn = record {
+  next = λ n h d. let e : 128 * (n / 128) + (n + 1) % 128 ≡ n + 1 = omega arith in ap number e;
+  ours-again = refl;
+  device-again = refl;
+}
 
 -- SegN is the least number with L at most 20 + 23 SegN
 pub segN-enough : (n : ℕ) → n ≤ 20 + 23 * segN n

@@ -69,10 +69,9 @@ returns c =
     let d = c .before .before .before .before in
     let none : d .loop .turns ≡ 0 = omega arith in
     record {
-      last = d .loop .progress;
+      afterTurns = d .loop .progress;
       run = rw none at (d .loop .inv .4);
       flushed = c .flush .ensures .0;
-      none = c .flush .ensures .1;
       held = refl;
       number = refl;
     }
