@@ -33,7 +33,7 @@ pub data Figure : Type 0 where
   pieces : ℕ → List ℕ → List (List ℕ) → Figure
   -- the status of a new filter to which a list of addresses was added, after one more address
   status : List ℕ → ℕ → List ℕ → Figure
-  -- a beacon with index B, with IV index I known: it is not refused, and its two reports
+  -- with IV index I known, a beacon with index B: it is not refused, and its two reports
   reports : ℕ → ℕ → List ℕ → Figure
 
 -- whether an answer has this word and these values
@@ -87,6 +87,8 @@ figures =
     -- top bits 0; then 1 and 3, in the two high bits of the first octet
     ∷ pieces 20 (upTo 19) ((0x00 ∷ upTo 19) ∷ [])
     ∷ pieces 20 (upTo 20) ((0x40 ∷ upTo 19) ∷ (0xC0 ∷ 19 ∷ []) ∷ [])
+    -- "A 17th address: count stays 16": after the 16th and after the 17th
+    ∷ status (1 ∷ 2 ∷ 3 ∷ 4 ∷ 5 ∷ 6 ∷ 7 ∷ 8 ∷ 9 ∷ 10 ∷ 11 ∷ 12 ∷ 13 ∷ 14 ∷ 15 ∷ []) 16 (0x03 ∷ 0 ∷ 0 ∷ 16 ∷ [])
     ∷ status (1 ∷ 2 ∷ 3 ∷ 4 ∷ 5 ∷ 6 ∷ 7 ∷ 8 ∷ 9 ∷ 10 ∷ 11 ∷ 12 ∷ 13 ∷ 14 ∷ 15 ∷ 16 ∷ []) 17 (0x03 ∷ 0 ∷ 0 ∷ 16 ∷ [])
     ∷ reports 0xFFFFFFFF 0xFFFFFFFF (0 ∷ 0 ∷ [])
     ∷ []

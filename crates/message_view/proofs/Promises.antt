@@ -5,7 +5,7 @@ use mathlib.Core.List.{List, [], _∷_, map}
 use mathlib.Core.Path.{_≡_, refl, sym, _∙_, ap}
 use lib.Dec.{eqb}
 use lib.ListN.{length}
-use borrow.Author.Tests.{le-leb, lt-leb, eqb-true}
+use borrow.Author.Tests.{le-leb, eqb-true}
 use Rattle.octets.specs.Told.{Told, refused, answered}
 use Rattle.octets.proofs.Tests.{cases}
 use Rattle.provisioning.specs.Layout.{sizesOf, sum}
@@ -13,13 +13,9 @@ use Rattle.provisioning.specs.Message.{typeOf, messageOf, told as messageTold}
 use Rattle.provisioning.specs.declared.Message.{Message}
 use Rattle.provisioning.proofs.Laws.{by-reading, by-type}
 use Rattle.message_view.specs.Reading.{sizeOf, valueAt, fieldAt, told}
-use Rattle.message_view.specs.Promises.{wantedSize, readAll, readTo, fieldsTold, SameFields, ViewReadsFields, PastEndStays}
+use Rattle.message_view.specs.Promises.{wantedSize, readAll, readTo, fieldsTold, SameFields, ViewReadsFields}
 use Rattle.message_view.specs.declared.Step.{Step}
 use Rattle.message_view.specs.declared.FieldRead.{FieldRead}
-
-pub past-end-stays : PastEndStays
-unfolding fieldAt
-past-end-stays m place w h = rw (lt-leb (place + sizeOf w) (length m) h) (refl, refl)
 
 -- a field that is asked for by its size has that size
 size-back : (n : ℕ) → sizeOf (wantedSize n) ≡ n

@@ -1,15 +1,15 @@
 -- What is promised of the view beyond its contracts. The proofs are `proofs/Promises.antt`.
-use Prim.Native.Nat.{ℕ, _+_, _<_}
+use Prim.Native.Nat.{ℕ}
 use Prim.Native.String.{String}
 use mathlib.Core.Bool.{cond}
 use mathlib.Core.List.{List, [], _∷_, map}
 use mathlib.Core.Path.{_≡_}
 use lib.Dec.{leb, eqb}
 use lib.ListN.{length, take, drop}
-use Rattle.octets.specs.Told.{Told, refused, answered}
+use Rattle.octets.specs.Told.{Told, answered}
 use Rattle.provisioning.specs.Layout.{sizesOf}
 use Rattle.provisioning.specs.Message.{typeOf, messageRead, told as messageTold}
-use Rattle.message_view.specs.Reading.{sizeOf, fieldAt, told}
+use Rattle.message_view.specs.Reading.{fieldAt, told}
 use Rattle.message_view.specs.declared.Wanted.{Wanted}
 use Rattle.message_view.specs.declared.Wanted.the-variants as W
 use Rattle.message_view.specs.declared.FieldRead.{FieldRead}
@@ -51,9 +51,3 @@ pub record SameFields (m values : List ℕ) : Type 0 where
 
 abbrev pub ViewReadsFields : Type 0
 ViewReadsFields = (m : List ℕ) (name : String) (values : List ℕ) → messageTold (messageRead m) ≡ answered name values → SameFields m values
-
--- a read past the end is refusal 44, and the view stays where it is
-abbrev pub PastEndStays : Type 0
-PastEndStays =
-    (m : List ℕ) (place : ℕ) (w : Wanted) → length m < place + sizeOf w
-    → (told (fieldAt m place w .field) ≡ refused 44) × (fieldAt m place w .next ≡ place)

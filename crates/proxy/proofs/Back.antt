@@ -14,8 +14,8 @@ use Rattle.octets.proofs.Parts.{write-length}
 use Rattle.octets.proofs.Cut.{map-up-to, placed-cut}
 use Rattle.octets.proofs.Tests.{cases}
 use Rattle.proxy.specs.Pieces.{isType, piecePlace, lastPiece, isWhole, topBits, pieceOctets, messagePieces, CutAsked}
-use Rattle.proxy.specs.Transfers.{empty, isGood, isRefused, topOf, typeOf, isExpected, isLikeFirst, heldLength, complete, added, joining, offered, pieceRead, bufferAfter, told}
-use Rattle.proxy.specs.Promises.{Run, run}
+use Rattle.proxy.specs.Transfers.{isGood, isRefused, topOf, typeOf, isExpected, isLikeFirst, heldLength, complete, added, joining, offered, pieceRead, bufferAfter, told}
+use Rattle.proxy.specs.Promises.{emptied, Run, run}
 use Rattle.proxy.specs.declared.HalfTransfer.{HalfTransfer}
 use Rattle.proxy.specs.declared.HalfTransfer.the-variants.{Nothing, Held}
 use Rattle.proxy.specs.declared.Transfer.{Transfer}
@@ -170,13 +170,13 @@ module _ (z t : ℕ) (m : List ℕ) (asked : CutAsked z (length m)) (small : t �
 
     -- the first k pieces, read
     run-front : (k : ℕ) → k ≤ N
-        → run (empty true) b (map (pieceOctets z t m) (upTo k))
+        → run (emptied true) b (map (pieceOctets z t m) (upTo k))
         ≡ record { answers = replicate k (answered "more" []); transfer = holding (heldAt k); buffer = bufferAt k }
     unfolding upTo
     run-front zero h = refl
     run-front (suc k) h =
-        ap (run (empty true) b) (map-up-to (pieceOctets z t m) k)
-        ∙ run-snoc (empty true) b (map (pieceOctets z t m) (upTo k)) (pieceOctets z t m k)
+        ap (run (emptied true) b) (map-up-to (pieceOctets z t m) k)
+        ∙ run-snoc (emptied true) b (map (pieceOctets z t m) (upTo k)) (pieceOctets z t m k)
         ∙ rw (run-front k (omega arith))
         (rw (buffer-long k (omega arith), buffer-next k (omega arith) (rw (more k h)), more k h, replicate-snoc k (answered "more" [])))
 
@@ -184,14 +184,14 @@ module _ (z t : ℕ) (m : List ℕ) (asked : CutAsked z (length m)) (small : t �
     unfolding lastPiece
     whole-buffer = placed-cut (z - 1) (z - 1) (omega (arith, asked .size-least)) m b (omega (arith, asked .few-octets))
 
-    pub all-pieces : run (empty true) b (messagePieces z t m)
+    pub all-pieces : run (emptied true) b (messagePieces z t m)
         ≡ record {
           answers = replicate N (answered "more" []) ++ (answered "whole" (t ∷ n ∷ []) ∷ []);
-          transfer = empty true;
+          transfer = emptied true;
           buffer = m ++ drop n b;
         }
     all-pieces =
-        ap (run (empty true) b) (map-up-to (pieceOctets z t m) N)
-        ∙ run-snoc (empty true) b (map (pieceOctets z t m) (upTo N)) (pieceOctets z t m N)
+        ap (run (emptied true) b) (map-up-to (pieceOctets z t m) N)
+        ∙ run-snoc (emptied true) b (map (pieceOctets z t m) (upTo N)) (pieceOctets z t m N)
         ∙ rw (run-front N (omega arith))
         (rw (buffer-long N (omega arith), buffer-next N (omega arith) (rw last), last, whole-buffer))

@@ -1,6 +1,6 @@
 -- Laws of the pieces of a message.
 use Prim.Native.Nat.{ℕ, zero, suc, _+_, _*_, _-_, _≤_, _<_}
-use native.Mathlib.Nat.{mul-zero, mul-suc}
+use native.Mathlib.Nat.{mul-zero, mul-suc, div-eq-sub-div}
 use native.Mathlib.Omega.{arith}
 use mathlib.Core.Bool.{true}
 use mathlib.Core.List.{List}
@@ -33,6 +33,15 @@ place-times a (suc k) = omega (arith, mul-suc a k)
 
 -- a message of n octets that is cut
 module _ (z n : ℕ) (asked : CutAsked z n) where
+  -- there is more than one piece exactly if the message is no shorter than the size
+  pub more-pieces : z ≤ n → 0 < lastPiece z n
+  unfolding lastPiece
+  more-pieces h = let least = asked .size-least in omega (arith, div-eq-sub-div {m = z - 1} {n = n - (z - 1) + (z - 1 - 1)} (omega arith) (omega arith))
+
+  pub one-piece : n < z → lastPiece z n ≡ 0
+  unfolding lastPiece
+  one-piece h = omega (arith, last-least (z - 1) (z - 1) n 0 (omega (arith, asked .size-least)) (omega arith))
+
   -- each piece begins within the message
   pub begins : (k : ℕ) → k ≤ lastPiece z n → piecePlace z k < n
   unfolding lastPiece
@@ -42,18 +51,6 @@ module _ (z n : ℕ) (asked : CutAsked z n) where
   pub last-ends : n ≤ piecePlace z (suc (lastPiece z n))
   unfolding lastPiece
   last-ends = last-enough (z - 1) (z - 1) n (omega (arith, asked .size-least))
-
-  -- there is one piece exactly if the message is shorter than the size
-  pub one-piece : n < z → lastPiece z n ≡ 0
-  unfolding lastPiece
-  one-piece h = omega (arith, last-least (z - 1) (z - 1) n 0 (omega (arith, asked .size-least)) (omega arith))
-
-  pub more-pieces : z ≤ n → 0 < lastPiece z n
-  more-pieces h = go (lastPiece z n) refl
-    where
-      go : (q : ℕ) → lastPiece z n ≡ q → 0 < q
-      go zero e = absurd (omega (arith, rw e at last-ends, asked .size-least))
-      go (suc j) e = omega arith
 
 -- each piece stands behind the one before it
 pub place-next : (z k : ℕ) → piecePlace z (suc k) ≡ piecePlace z k + (z - 1)

@@ -17,8 +17,8 @@ use Rattle.octets.proofs.Tables.{other-told}
 use Rattle.octets.proofs.Tests.{cases}
 use Rattle.octets.proofs.Writing.{wrote}
 use Rattle.proxy.specs.Pieces.{isPiece, piecePlace, lastPiece, topBits, pieceOctets, messagePieces}
-use Rattle.proxy.specs.Transfers.{empty, isGood, setConnected, typeOf, dataOf, topOf, heldLength, added, pieceRead, isRefused, bufferAfter, refusalNumber, told}
-use Rattle.proxy.specs.Promises.{disconnects, RefusalKeeps, ConnectionRefusalKeeps, PiecesAdded, ConnectionStartsEmpty, KeepsGood, Back, WritesPieces, CutsAsSaid}
+use Rattle.proxy.specs.Transfers.{isGood, setConnected, typeOf, dataOf, topOf, heldLength, added, pieceRead, isRefused, bufferAfter, refusalNumber, told}
+use Rattle.proxy.specs.Promises.{emptied, disconnects, RefusalKeeps, ConnectionRefusalKeeps, PiecesAdded, ConnectionStartsEmpty, KeepsGood, Back, WritesPieces, CutsAsSaid}
 use Rattle.proxy.specs.declared.HalfTransfer.the-variants.{Held}
 use Rattle.proxy.specs.declared.Transfer.{Transfer}
 use Rattle.proxy.specs.declared.PieceRead.{PieceRead}
@@ -35,7 +35,7 @@ back z t m b c h room = all-pieces z t m (cut-asked z (length m) c) (leb-true t 
 record Kept (s : Transfer) (r : PieceRead) (n : ℕ) : Type 0 where
   refusal : isRefused (r .answer) ≡ true
   keeps : disconnects n ≡ false → r .transfer ≡ s
-  drops : disconnects n ≡ true → r .transfer ≡ empty false
+  drops : disconnects n ≡ true → r .transfer ≡ emptied false
 
 -- a test cannot give both
 never : {A : Type 0} {t : Bool} → t ≡ true → t ≡ false → A
@@ -81,7 +81,7 @@ module _ (s : Transfer) (room : ℕ) (p : List ℕ) where
   after-more r (drops q h) = other-told _ _ refl
   after-more r (adds f) = cases (eqb (topOf p) 0 || eqb (topOf p) 3) (λ g. rw g (other-told _ _ refl)) (λ g. rw (g, data-count) (λ _. refl))
 
-  after-whole : (r : PieceRead) → Outcome s room p r → (values : List ℕ) → told (r .answer) ≡ answered "whole" values → r .transfer ≡ empty true
+  after-whole : (r : PieceRead) → Outcome s room p r → (values : List ℕ) → told (r .answer) ≡ answered "whole" values → r .transfer ≡ emptied true
   unfolding added
   after-whole r (refuses q h) values = other-told _ _ refl
   after-whole r (drops q h) values = other-told _ _ refl
@@ -153,5 +153,6 @@ cuts-as-said z t m c =
           data-long z m k ∙ omega (arith, place-next z k, begins z (length m) asked (suc k) h);
       remains = omega (arith, place-times (z - 1) N);
       some-octet = omega arith;
+      no-more = omega arith;
       in-order = joined-data z t m (omega arith);
     }

@@ -11,9 +11,13 @@ use Rattle.octets.specs.Cut.{joined}
 use Rattle.octets.specs.Told.{Told, refused, answered}
 use Rattle.octets.specs.Writing.{told as writerTold, written, outputAfter}
 use Rattle.proxy.specs.Pieces.{isCut, isType, isPiece, lastPiece, pieceOctets, messagePieces}
-use Rattle.proxy.specs.Transfers.{empty, isGood, setConnected, connectionTold, typeOf, dataOf, heldLength, pieceRead, bufferAfter, told}
-use Rattle.proxy.specs.declared.HalfTransfer.the-variants.{Held}
+use Rattle.proxy.specs.Transfers.{isGood, setConnected, connectionTold, typeOf, dataOf, heldLength, pieceRead, bufferAfter, told}
+use Rattle.proxy.specs.declared.HalfTransfer.the-variants.{Nothing, Held}
 use Rattle.proxy.specs.declared.Transfer.{Transfer}
+
+-- connected or not, with nothing half-received: in the statements' own words, and not the rule's `empty`
+abbrev pub emptied : Bool → Transfer
+emptied connected = record { connected = connected; half = Nothing }
 
 -- ---- refusals, and good states
 
@@ -21,11 +25,11 @@ use Rattle.proxy.specs.declared.Transfer.{Transfer}
 abbrev pub disconnects : ℕ → Bool
 disconnects n = leb 23 n && leb n 25
 
--- "No refusal touches the buffer", and what each leaves of the transfer
+-- "No refusal touches the buffer"; "23 to 25 disconnect and drop the half-received message", and the others leave the transfer as it was
 pub record PieceRefused (s : Transfer) (b p : List ℕ) (n : ℕ) : Type 0 where
   pub buffer : bufferAfter s b p ≡ b
   pub keeps : disconnects n ≡ false → pieceRead s (length b) p .transfer ≡ s
-  pub drops : disconnects n ≡ true → pieceRead s (length b) p .transfer ≡ empty false
+  pub drops : disconnects n ≡ true → pieceRead s (length b) p .transfer ≡ emptied false
 
 abbrev pub RefusalKeeps : Type 0
 RefusalKeeps = (s : Transfer) (b p : List ℕ) (n : ℕ) → told (pieceRead s (length b) p .answer) ≡ refused n → PieceRefused s b p n
@@ -35,7 +39,7 @@ ConnectionRefusalKeeps = (c : Bool) (s : Transfer) (n : ℕ) → connectionTold 
 
 -- a good transfer stays good under every call, and a new one is good
 pub record KeepsGood : Type 0 where
-  pub new : isGood (empty false) ≡ true
+  pub new : isGood (emptied false) ≡ true
   pub connects : (c : Bool) (s : Transfer) → isGood s ≡ true → isGood (setConnected c s .transfer) ≡ true
   pub reads : (s : Transfer) (b p : List ℕ) → isGood s ≡ true → isGood (pieceRead s (length b) p .transfer) ≡ true
 
@@ -44,7 +48,7 @@ pub record KeepsGood : Type 0 where
 pub record PieceAdded (s : Transfer) (b p : List ℕ) : Type 0 where
   pub more : told (pieceRead s (length b) p .answer) ≡ answered "more" []
       → pieceRead s (length b) p .transfer ≡ record { connected = true; half = Held (typeOf p) (heldLength (s .half) + length (dataOf p)) }
-  pub whole : (values : List ℕ) → told (pieceRead s (length b) p .answer) ≡ answered "whole" values → pieceRead s (length b) p .transfer ≡ empty true
+  pub whole : (values : List ℕ) → told (pieceRead s (length b) p .answer) ≡ answered "whole" values → pieceRead s (length b) p .transfer ≡ emptied true
   pub buffer : (word : String) (values : List ℕ) → told (pieceRead s (length b) p .answer) ≡ answered word values
       → bufferAfter s b p ≡ write b (heldLength (s .half)) (dataOf p)
 
@@ -53,7 +57,7 @@ PiecesAdded = (s : Transfer) (b p : List ℕ) → PieceAdded s b p
 
 -- "Reconnecting starts empty."
 abbrev pub ConnectionStartsEmpty : Type 0
-ConnectionStartsEmpty = (c : Bool) (s : Transfer) → connectionTold (setConnected c s .answer) ≡ answered "done" [] → setConnected c s .transfer ≡ empty c
+ConnectionStartsEmpty = (c : Bool) (s : Transfer) → connectionTold (setConnected c s .answer) ≡ answered "done" [] → setConnected c s .transfer ≡ emptied c
 
 -- ---- pieces read one after the other
 
@@ -75,10 +79,10 @@ run s b (p ∷ ps) =
 abbrev pub Back : Type 0
 Back =
     (z t : ℕ) (m b : List ℕ) → isCut z (length m) ≡ true → isType t ≡ true → length b ≡ 1469
-    → run (empty true) b (messagePieces z t m)
+    → run (emptied true) b (messagePieces z t m)
     ≡ record {
       answers = replicate (lastPiece z (length m)) (answered "more" []) ++ (answered "whole" (t ∷ length m ∷ []) ∷ []);
-      transfer = empty true;
+      transfer = emptied true;
       buffer = m ++ drop (length m) b;
     }
 
@@ -99,8 +103,9 @@ pub record CutAsSaid (z t : ℕ) (m : List ℕ) : Type 0 where
   pub full : (k : ℕ) → k < lastPiece z (length m) → length (dataOf (pieceOctets z t m k)) ≡ z - 1
   -- "the last of what remains"
   pub remains : length (dataOf (pieceOctets z t m (lastPiece z (length m)))) + (z - 1) * lastPiece z (length m) ≡ length m
-  -- and at least one octet
+  -- which is at least one octet and at most a full piece
   pub some-octet : 1 ≤ length (dataOf (pieceOctets z t m (lastPiece z (length m))))
+  pub no-more : length (dataOf (pieceOctets z t m (lastPiece z (length m)))) ≤ z - 1
   -- all octets, in order
   pub in-order : joined (map dataOf (messagePieces z t m)) ≡ m
 
