@@ -50,13 +50,13 @@ abbrev pub TypeZeroKeeps : Type 0
 TypeZeroKeeps = (s : SecurityState) (host : Hearing) (b : List ℕ) → getD b 0 0 ≡ 0 → heard s host b .state ≡ s
 
 -- a local call that moves the phase leaves the IV state: a start leads to phase 1, a set to 2, or with 3 to phase 0
-abbrev pub atPhase : ℕ → SecurityState → SecurityState
-atPhase phase s = record { phase = phase; iv = s .iv }
+abbrev pub withPhase : ℕ → SecurityState → SecurityState
+withPhase phase s = record { phase = phase; iv = s .iv }
 
 pub record LocalMoves : Type 0 where
-  pub start : (s : SecurityState) (values : List ℕ) → told (started s .answer) ≡ answered "moved" values → started s .state ≡ atPhase 1 s
+  pub start : (s : SecurityState) (values : List ℕ) → told (started s .answer) ≡ answered "moved" values → started s .state ≡ withPhase 1 s
   pub setting : (s : SecurityState) (target : ℕ) (values : List ℕ) → told (set s target .answer) ≡ answered "moved" values
-      → set s target .state ≡ atPhase (cond (eqb target 3) 0 2) s
+      → set s target .state ≡ withPhase (cond (eqb target 3) 0 2) s
 
 -- ---- an accepted beacon of type 1: both rules, each on its own state; the two values are those of its answer
 

@@ -1,18 +1,17 @@
 -- Document 01's answers to a beacon and to the local key calls, in the order in which they are tried, each with what it is given for: to be read
--- beside "Beacons and states". No condition goes by a test of `Rules.antt` or `Beacons.antt`.
+-- beside "Beacons and states". No condition and no value goes by a definition of `Rules.antt` or `Beacons.antt`.
 use Prim.Native.Nat.{ℕ, _+_, _/_, _%_}
 use mathlib.Core.Bool.{Bool, true, false, _&&_, _||_, not, cond}
 use mathlib.Core.List.{List, [], _∷_}
-use lib.Dec.{ltb, eqb}
+use lib.Dec.{leb, ltb, eqb}
 use lib.ListN.{length, getD}
 use Rattle.octets.specs.Numbers.{big16, big32}
 use Rattle.octets.specs.Tables.{Row, refusal, reply}
-use Rattle.beacon.specs.Rules.{keyRule, ivRule}
-use Rattle.beacon.specs.Beacons.{revokeValue, reportValue}
 use Rattle.beacon.specs.declared.Key.{Key}
 use Rattle.beacon.specs.declared.Key.the-variants.{Old, New}
 use Rattle.beacon.specs.declared.Subnet.{Subnet}
 use Rattle.beacon.specs.declared.Subnet.the-variants.{Primary, Secondary}
+use Rattle.beacon.specs.declared.IvState.{IvState}
 use Rattle.beacon.specs.declared.SecurityState.{SecurityState}
 use Rattle.beacon.specs.declared.Hearing.{Hearing}
 
@@ -52,13 +51,35 @@ isOutOfWindow i subnet b = ltb b i || (ltb (i + 42) b || (onSecondary subnet && 
 abbrev pub unprovisionedValues : List ℕ → List ℕ
 unprovisionedValues b = 1 ∷ big16 b 17 ∷ cond (eqb (length b) 23) (19 ∷ []) []
 
--- "Type 1: flags 1 (bit 0 key refresh, bit 1 IV update, others ignored), Network ID 8, IV index 4, authentication 8"; "One answer carries both
--- rules' reports."
+-- ---- the two values of an accepted beacon of type 1
+
+-- "flags 1 (bit 0 key refresh, bit 1 IV update, others ignored)"
+abbrev pub keyFlag : List ℕ → Bool
+keyFlag b = eqb (getD b 1 0 % 2) 1
+
+abbrev pub ivFlag : List ℕ → Bool
+ivFlag b = eqb (getD b 1 0 / 2 % 2) 1
+
+-- "Phase 1: new key [..] with flag 0 phase 0 and 'revoke old'; [..] Phase 2: [..] flag 0 gives phase 0 and 'revoke old'."
+abbrev pub revokesOld : ℕ → Key → Bool → Bool
+revokesOld phase key flag = (eqb phase 1 && (isNew key && not flag)) || (eqb phase 2 && not flag)
+
+-- "In progress, B = I, flag 0: normal, 'reset sequence'."
+abbrev pub resetsSequence : IvState → ℕ → Bool → Bool
+resetsSequence iv b flag = iv .updating && (eqb b (iv .index) && not flag)
+
+-- "B from I + 2, or in progress from I + 1: 'recovery wanted'"
+abbrev pub wantsRecovery : IvState → ℕ → Bool
+wantsRecovery iv b = leb (iv .index + 2) b || (iv .updating && leb (iv .index + 1) b)
+
+-- "One answer carries both rules' reports.": first 1 for "revoke old", then 1 for "reset sequence" or 2 for "recovery wanted"
 abbrev pub secureValues : SecurityState → Hearing → List ℕ → List ℕ
 secureValues s host b =
-    revokeValue (keyRule (s .phase) (host .key) (eqb (getD b 1 0 % 2) 1) .revoke)
-    ∷ reportValue (ivRule (s .iv) (big32 b 10) (eqb (getD b 1 0 / 2 % 2) 1) .report)
+    cond (revokesOld (s .phase) (host .key) (keyFlag b)) 1 0
+    ∷ cond (resetsSequence (s .iv) (big32 b 10) (ivFlag b)) 1 (cond (wantsRecovery (s .iv) (big32 b 10)) 2 0)
     ∷ []
+
+-- ---- THE TABLE
 
 -- "51 empty; 52 other type; 53 length [..]; 54 the host says not authentic; 55 wrong key; 57 index out of window. In that order; 54 on are for type 1"
 abbrev pub heardRows : SecurityState → Hearing → List ℕ → List Row

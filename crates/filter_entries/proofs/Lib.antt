@@ -1,3 +1,4 @@
 pub mod Lookup
 pub mod Lists
 pub mod Bad
+pub mod Promises

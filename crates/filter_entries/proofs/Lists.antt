@@ -151,10 +151,6 @@ others-left l a h =
     (λ z. rw (z, eqb-true a 0 z) (sym (all-but-off l 0 (off-zero l h))))
     (λ z. rw z (left-at l a (find l a) (found l a 0) h))
 
-pub around-left : (l : List Entry) (a : ℕ) → allAllowed l ≡ true → (x : List Entry) (e : Entry) (y : List Entry) → l ≡ x ++ e ∷ y → e .address ≡ a
-    → changed Remove l a ≡ x ++ y
-around-left l a h x e y s q = others-left l a h ∙ rw (s, sym q) (all-but-around x e y (rw (sym s) h))
-
 off-all-but : (l : List Entry) (a : ℕ) → isOn (allBut a l) a ≡ false
 off-all-but [] a = refl
 off-all-but (e ∷ l) a = cases (eqb (e .address) a) (λ g. rw g (off-all-but l a)) (λ g. rw (g, g) (off-all-but l a))

@@ -1,3 +1,4 @@
 pub mod Entries
 pub mod Changes
 pub mod Bad
+pub mod Promises

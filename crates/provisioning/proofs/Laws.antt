@@ -2,7 +2,6 @@
 use Prim.Native.Nat.{ℕ, zero, suc, _+_, _/_, _%_, _<_, _≤_}
 use native.Mathlib.Numerals.{add-one}
 use native.Mathlib.Omega.{arith}
-use mathlib.Core.Bool.{false}
 use mathlib.Core.List.{List, [], _∷_, _++_}
 use mathlib.Core.Path.{_≡_, refl, sym}
 use lib.Dec.{leb, eqb}
@@ -25,7 +24,6 @@ use Rattle.provisioning.specs.declared.Message.the-variants as M
 pub record Read (m : List ℕ) (type : ℕ) : Type 0 where
   pub first : typeOf m ≡ type
   pub long : length m ≡ 1 + parameterLength type
-  pub allowed : isProhibited (messageOf m type) ≡ false
 
 -- a message that was read is a refusal, or the message of its type
 pub by-reading : (m : List ℕ) (P : Message → Type 0) → ((r : MessageRefusal) → P (M.Refused r))
@@ -39,7 +37,7 @@ by-reading m P refused taken =
     (cases (eqb (length m) n)
     (λ long. rw long
     (cases (isProhibited (messageOf m (typeOf m))) (λ e. rw e (refused R.Prohibited))
-    (λ e. rw e (taken (leb-false 10 (typeOf m) known) (record { first = refl; long = eqb-true (length m) n long; allowed = e })))))
+    (λ e. rw e (taken (leb-false 10 (typeOf m) known) (record { first = refl; long = eqb-true (length m) n long })))))
     (λ e. rw e (refused R.WrongLength))))))))
 
 -- the ten types

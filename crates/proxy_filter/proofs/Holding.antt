@@ -14,7 +14,7 @@ use Rattle.filter_entries.specs.Entries.{entry, unused, allAllowed, allUnused}
 use Rattle.filter_entries.specs.Changes.{appended, without}
 use Rattle.filter_entries.specs.declared.Entry.{Entry}
 use Rattle.filter_entries.proofs.Lists.{Fine}
-use Rattle.proxy_filter.specs.Filters.{held, past, holding, isGood}
+use Rattle.proxy_filter.specs.Filters.{held, holding, isGood}
 use Rattle.proxy_filter.specs.declared.Filter.{Filter}
 
 -- a list of places that are not in use
@@ -53,6 +53,10 @@ good-holding kind l n h =
     rw (le-leb (length l) 16 n, take-at l z (length l) refl, h, drop-at l z (length l) refl) (replicate-unused (16 - length l))
 
 -- ---- a filter that isn't bad
+
+-- its places past the count
+abbrev past : Filter → List Entry
+past f = drop (f .count) (f .entries)
 
 good-parts : (f : Filter) → isGood f ≡ true → (leb (f .count) 16 ≡ true) × ((allAllowed (held f) ≡ true) × (allUnused (past f) ≡ true))
 unfolding isGood

@@ -3,11 +3,12 @@ use Prim.Native.Nat.{ℕ, suc, _-_, _*_, _%_, _<_, _≤_}
 use native.Mathlib.Nat.{div-add-mod'}
 use native.Mathlib.Omega.{arith}
 use mathlib.Core.Bool.{true, false, and-eq-true-iff}
-use mathlib.Core.List.{List, [], _∷_, _++_}
+use mathlib.Core.List.{List, [], _∷_}
+use mathlib.Core.Logic.{_≢_}
 use mathlib.Core.Path.{_≡_, refl, sym, ap, _∙_}
 use lib.Dec.{leb, eqb}
 use lib.ListN.{length, drop}
-use borrow.Author.Tests.{le-leb, lt-leb, eq-eqb, ne-eqb, leb-true}
+use borrow.Author.Tests.{le-leb, ne-eqb, leb-true}
 use Rattle.octets.specs.Told.{answered}
 use Rattle.octets.proofs.Tests.{cases}
 use Rattle.filter_messages.specs.Messages.{typeOf, changeOf, requestOf}
@@ -19,21 +20,28 @@ use Rattle.filter_messages.specs.declared.Request.{Request}
 use Rattle.filter_messages.specs.declared.Request.the-variants as Q
 use Rattle.filter_messages.specs.declared.FilterRefusal.{FilterRefusal}
 use Rattle.filter_messages.specs.declared.FilterRefusal.the-variants as R
-use Rattle.filter_entries.specs.Entries.{entry, isOn, find}
-use Rattle.filter_entries.specs.Changes.{changed, changedAt, changedAll}
+use Rattle.filter_entries.specs.Entries.{isOn}
+use Rattle.filter_entries.specs.Changes.{changed, changedAll}
 use Rattle.filter_entries.specs.declared.Entry.{Entry}
-use Rattle.filter_entries.specs.declared.Place.{Place}
-use Rattle.filter_entries.specs.declared.Place.the-variants.{At, Nowhere}
-use Rattle.filter_entries.proofs.Lookup.{isThere, on-found}
-use Rattle.filter_entries.proofs.Lists.{Fine, fine-changed, fine-all, on-after, off-after, others-left, around-left}
+use Rattle.filter_entries.proofs.Lists.{Fine, fine-changed, fine-all, on-after, off-after, others-left}
+use Rattle.filter_entries.proofs.Promises.{all-added, all-removed}
 use Rattle.proxy_filter.specs.Filters.{held, holding, isGood}
 use Rattle.proxy_filter.specs.Calls.{addresses, performed, controlled, changeFor, isUnicast, learned, passing, reporting, refusing, passTold}
 use Rattle.proxy_filter.specs.Tables.{badRow, listPasses}
-use Rattle.proxy_filter.specs.Promises.{Safe, AllSafe, octetsOf, afterMessage, AllInTurn, NoneChanges, AllLearnAs, TypesSet, afterAdding, Additions, afterRemoving, Removals, AllLearning}
+use Rattle.proxy_filter.specs.Promises.{Empty, AtStart, Safe, AllSafe, octetsOf, afterMessage, AllInTurn, NoneChanges, AllLearnAs, TypesSet, Additions, Removals, AllLearning}
 use Rattle.proxy_filter.specs.declared.Filter.{Filter}
 use Rattle.proxy_filter.specs.declared.FilterStep.{FilterStep}
 use Rattle.proxy_filter.proofs.Holding.{held-holding, kind-holding, good-holding, fine-held, rebuilt}
 use Rattle.proxy_filter.proofs.Tables.{pass-table}
+
+-- ---- an empty list
+
+empty : (type : FilterType) → Empty type (holding type [])
+unfolding holding
+empty type = record { kind = refl; count = refl; entries = refl }
+
+pub at-start : AtStart
+at-start = empty AcceptList
 
 -- ---- every call
 
@@ -57,7 +65,7 @@ safe-performed f m (Q.Refused r) g = safe-refusing f r
 pub all-safe : AllSafe
 unfolding controlled learned
 all-safe = record {
-  at-start = good-holding AcceptList [] (omega arith) refl;
+  starts-good = good-holding AcceptList [] (omega arith) refl;
   message = λ f m. cases (isGood f) (λ g. rw g (safe-performed f m (requestOf m) g)) (λ g. rw g (safe-refusing f R.BadState));
   source = λ f a.
       cases (isGood f)
@@ -123,19 +131,28 @@ none-change f long g = (none-changes Add 0x01 asks-to-add f long g, none-changes
 
 pub types-set : TypesSet
 unfolding controlled requestOf typeOf
-types-set f g = record { accept = ap (λ (r : FilterStep). r .filter) accepts; reject = ap (λ (r : FilterStep). r .filter) rejects }
-  where
-    accepts : controlled f (0x00 ∷ 0 ∷ []) ≡ reporting (holding AcceptList [])
-    accepts = rw g
+types-set f g = record { accept = rw g (empty AcceptList); reject = rw g (empty RejectList) }
 
-    rejects : controlled f (0x00 ∷ 1 ∷ []) ≡ reporting (holding RejectList [])
-    rejects = rw g
+-- a message with one address
+module _ (f : Filter) (a : ℕ) (g : isGood f ≡ true) where
+  one-added : afterMessage 0x01 f (a ∷ []) ≡ holding (f .kind) (changed Add (held f) a)
+  one-added = does Add 0x01 asks-to-add f (a ∷ []) g (omega arith)
 
-one-added : (f : Filter) (a : ℕ) → isGood f ≡ true → afterAdding f a ≡ changed Add (held f) a
-one-added f a g = rw (does Add 0x01 asks-to-add f (a ∷ []) g (omega arith)) (held-holding (f .kind) _)
+  one-removed : afterMessage 0x02 f (a ∷ []) ≡ holding (f .kind) (changed Remove (held f) a)
+  one-removed = does Remove 0x02 asks-to-remove f (a ∷ []) g (omega arith)
 
-one-removed : (f : Filter) (a : ℕ) → isGood f ≡ true → afterRemoving f a ≡ changed Remove (held f) a
-one-removed f a g = rw (does Remove 0x02 asks-to-remove f (a ∷ []) g (omega arith)) (held-holding (f .kind) _)
+pub additions : Additions
+additions f a g = record {
+  list = rw (one-added f a g, held-holding (f .kind) _) (all-added (held f) a);
+  type = rw (one-added f a g) (kind-holding (f .kind) _);
+}
+
+pub removals : Removals
+removals f a g = record {
+  list = rw (one-removed f a g, held-holding (f .kind) _) (all-removed (held f) a);
+  others = rw (one-removed f a g, held-holding (f .kind) _) (others-left (held f) a (fine-held f g .allowed));
+  type = rw (one-removed f a g) (kind-holding (f .kind) _);
+}
 
 -- ---- a source learned
 
@@ -156,66 +173,21 @@ all-learn-as f s g u = record {
         ap (λ (r : FilterStep). r .filter) (learned-as f s g u)
         ∙ ap (λ (c : Change). holding (f .kind) (changed c (held f) s)) k ∙ sym (does c opcode asks f (s ∷ []) g (omega arith))
 
--- ---- one address
-
--- what adding does, by the place found
-add-at : (p : Place) (l : List Entry) (a : ℕ) → isThere p ≡ true → changedAt Add p l a ≡ l
-add-at (At p) l a h = refl
-add-at Nowhere l a h = let z : _≡_ {A = ℕ} 0 1 = cc in absurd (omega arith)
-
-add-full-at : (p : Place) (l : List Entry) (a : ℕ) → 16 ≤ length l → changedAt Add p l a ≡ l
-add-full-at (At p) l a h = refl
-add-full-at Nowhere l a h = rw (le-leb 16 (length l) h)
-
-add-last-at : (p : Place) (l : List Entry) (a : ℕ) → isThere p ≡ false → length l < 16 → changedAt Add p l a ≡ l ++ (entry a ∷ [])
-add-last-at (At p) l a n h = let z : _≡_ {A = ℕ} 0 1 = cc in absurd (omega arith)
-add-last-at Nowhere l a n h = rw (lt-leb 16 (length l) h)
-
-add-there : (l : List Entry) (a : ℕ) → isOn l a ≡ true → changed Add l a ≡ l
-unfolding changed
-add-there l a h = cases (eqb a 0) (λ z. rw z) (λ z. rw z (add-at (find l a) l a (sym (on-found l a 0) ∙ h)))
-
-add-full : (l : List Entry) (a : ℕ) → 16 ≤ length l → changed Add l a ≡ l
-unfolding changed
-add-full l a h = cases (eqb a 0) (λ z. rw z) (λ z. rw z (add-full-at (find l a) l a h))
-
-add-last : (l : List Entry) (a : ℕ) → eqb a 0 ≡ false → isOn l a ≡ false → length l < 16 → changed Add l a ≡ l ++ (entry a ∷ [])
-unfolding changed
-add-last l a z n h = rw z (add-last-at (find l a) l a (sym (on-found l a 0) ∙ n) h)
-
-add-zero : (l : List Entry) (a : ℕ) → a ≡ 0 → changed Add l a ≡ l
-unfolding changed
-add-zero l a h = rw (eq-eqb a 0 h)
-
-pub additions : Additions
-additions f a g = record {
-  last = λ z n h. one-added f a g ∙ add-last (held f) a z n h;
-  zero = λ h. one-added f a g ∙ add-zero (held f) a h;
-  there = λ h. one-added f a g ∙ add-there (held f) a h;
-  full = λ h. one-added f a g ∙ add-full (held f) a h;
-}
-
-pub removals : Removals
-removals f a g = record {
-  others = one-removed f a g ∙ others-left (held f) a (fine-held f g .allowed);
-  around = λ x e y s q. one-removed f a g ∙ around-left (held f) a (fine-held f g .allowed) x e y s q;
-}
-
 -- ---- learning, then passing
 
-unicast-not-zero : (s : ℕ) → isUnicast s ≡ true → eqb s 0 ≡ false
-unicast-not-zero s u = ne-eqb s 0 (λ e. absurd (omega (arith, leb-true 1 s (and-eq-true-iff (leb 1 s) (leb s 0x7FFF) .0 u .0))))
+unicast-not-zero : (s : ℕ) → isUnicast s ≡ true → s ≢ 0
+unicast-not-zero s u = λ e. absurd (omega (arith, leb-true 1 s (and-eq-true-iff (leb 1 s) (leb s 0x7FFF) .0 u .0)))
 
 -- a destination that passes
-passes : (f : Filter) (d : ℕ) → isGood f ≡ true → eqb d 0 ≡ false → listPasses (f .kind) (isOn (held f) d) ≡ true → passTold (passing f d) ≡ answered "passes" []
-passes f d g z h = pass-table f d .exactly (badRow f ∷ []) _ _ refl .1 (rw (z, h), rw g)
+passes : (f : Filter) (d : ℕ) → isGood f ≡ true → d ≢ 0 → listPasses (f .kind) (isOn (held f) d) ≡ true → passTold (passing f d) ≡ answered "passes" []
+passes f d g z h = pass-table f d .exactly (badRow f ∷ []) _ _ refl .1 (rw (ne-eqb d 0 z, h), rw g)
 
 -- a source that is on the list after it was added
-on-added : (l : List Entry) (s : ℕ) → eqb s 0 ≡ false → length l < 16 → isOn (changed Add l s) s ≡ true
+on-added : (l : List Entry) (s : ℕ) → s ≢ 0 → length l < 16 → isOn (changed Add l s) s ≡ true
 on-added l s z h =
     cases (isOn l s)
-    (λ n. rw (add-there l s n) n)
-    (λ n. rw (add-last l s z n h) (on-after l s))
+    (λ n. rw (all-added l s .there n) n)
+    (λ n. rw (all-added l s .last z n h) (on-after l s))
 
 module _ (f : Filter) (s : ℕ) (g : isGood f ≡ true) (u : isUnicast s ≡ true) where
   after-good : isGood (learned f s .filter) ≡ true
@@ -236,13 +208,13 @@ module _ (f : Filter) (s : ℕ) (g : isGood f ≡ true) (u : isUnicast s ≡ tru
 
   skips-full : length (f .entries) ≡ 16 → f .kind ≡ AcceptList → 16 ≤ length (held f) → learned f s ≡ reporting f
   skips-full long k h =
-      let c : changed (changeFor (f .kind)) (held f) s ≡ held f = rw k (add-full (held f) s h) in
+      let c : changed (changeFor (f .kind)) (held f) s ≡ held f = rw k (all-added (held f) s .full h) in
       learned-as f s g u ∙ rw (c, sym (rebuilt f long g))
 
 pub all-learning : AllLearning
 all-learning f s long g u = record {
   accept-room = λ k h. passes-accept f s g u k (on-added (held f) s (unicast-not-zero s u) h);
-  accept-there = λ k h. passes-accept f s g u k (rw (add-there (held f) s h) h);
+  accept-there = λ k h. passes-accept f s g u k (rw (all-added (held f) s .there h) h);
   reject = λ k. passes-reject f s g u k;
   full = λ k h. ap (λ (r : FilterStep). r .filter) (skips-full f s g u long k h);
 }

@@ -1,22 +1,33 @@
 -- What is promised of the filter beyond each call's contract. The proofs are `proofs/Promises.antt`.
 use Prim.Native.Nat.{ℕ, _<_, _≤_}
-use mathlib.Core.Bool.{true, false}
+use mathlib.Core.Bool.{true}
 use mathlib.Core.List.{List, [], _∷_, _++_}
 use mathlib.Core.Path.{_≡_}
-use lib.Dec.{eqb}
-use lib.ListN.{length}
+use lib.ListN.{length, replicate}
 use Rattle.octets.specs.Numbers.{octets16}
 use Rattle.octets.specs.Told.{refused, answered}
 use Rattle.filter_messages.specs.Messages.{told}
+use Rattle.filter_messages.specs.declared.FilterType.{FilterType}
 use Rattle.filter_messages.specs.declared.FilterType.the-variants.{AcceptList, RejectList}
-use Rattle.filter_messages.specs.declared.Change.the-variants.{Add}
-use Rattle.filter_entries.specs.Entries.{entry, isOn}
+use Rattle.filter_entries.specs.Entries.{unused, isOn}
 use Rattle.filter_entries.specs.Changes.{allBut}
+use Rattle.filter_entries.specs.Promises.{Added, Removed}
 use Rattle.filter_entries.specs.declared.Entry.{Entry}
-use Rattle.proxy_filter.specs.Filters.{held, holding, isGood}
+use Rattle.proxy_filter.specs.Filters.{held, isGood}
 use Rattle.proxy_filter.specs.Calls.{new, controlled, isUnicast, learned, passing, passTold}
 use Rattle.proxy_filter.specs.declared.Filter.{Filter}
 use Rattle.proxy_filter.specs.declared.FilterStep.{FilterStep}
+
+-- ---- "New: accept list, empty."
+
+-- a list of a type with no address: none of its 16 places is in use
+pub record Empty (type : FilterType) (f : Filter) : Type 0 where
+  pub kind : f .kind ≡ type
+  pub count : f .count ≡ 0
+  pub entries : f .entries ≡ replicate 16 unused
+
+abbrev pub AtStart : Type 0
+AtStart = Empty AcceptList new
 
 -- ---- every call: a refusal changes nothing, and a filter that isn't bad stays so
 
@@ -25,7 +36,7 @@ pub record Safe (f : Filter) (r : FilterStep) : Type 0 where
   pub keeps-good : isGood f ≡ true → isGood (r .filter) ≡ true
 
 pub record AllSafe : Type 0 where
-  pub at-start : isGood new ≡ true
+  pub starts-good : isGood new ≡ true
   pub message : (f : Filter) (m : List ℕ) → Safe f (controlled f m)
   pub source : (f : Filter) (a : ℕ) → Safe f (learned f a)
 
@@ -55,40 +66,37 @@ NoneChanges = (f : Filter) → length (f .entries) ≡ 16 → isGood f ≡ true 
 -- ---- a message of a type: "Opcode 0 sets the type (0 accept, 1 reject) and empties"
 
 pub record TypeSet (f : Filter) : Type 0 where
-  pub accept : controlled f (0x00 ∷ 0 ∷ []) .filter ≡ holding AcceptList []
-  pub reject : controlled f (0x00 ∷ 1 ∷ []) .filter ≡ holding RejectList []
+  pub accept : Empty AcceptList (controlled f (0x00 ∷ 0 ∷ []) .filter)
+  pub reject : Empty RejectList (controlled f (0x00 ∷ 1 ∷ []) .filter)
 
 abbrev pub TypesSet : Type 0
 TypesSet = (f : Filter) → isGood f ≡ true → TypeSet f
 
--- ---- one address added
+-- ---- one address added: the skips and the place are those of `Added`
 
 -- the list held after the message that adds an address
 abbrev pub afterAdding : Filter → ℕ → List Entry
 afterAdding f a = held (afterMessage 0x01 f (a ∷ []))
 
 pub record Addition (f : Filter) (a : ℕ) : Type 0 where
-  -- it comes after the others, which stay
-  pub last : eqb a 0 ≡ false → isOn (held f) a ≡ false → length (held f) < 16 → afterAdding f a ≡ held f ++ (entry a ∷ [])
-  -- "0x0000, already there (adding), [..] or no room: skipped"
-  pub zero : a ≡ 0 → afterAdding f a ≡ held f
-  pub there : isOn (held f) a ≡ true → afterAdding f a ≡ held f
-  pub full : 16 ≤ length (held f) → afterAdding f a ≡ held f
+  pub list : Added (held f) a (afterAdding f a)
+  -- the filter stays of its type
+  pub type : afterMessage 0x01 f (a ∷ []) .kind ≡ f .kind
 
 abbrev pub Additions : Type 0
 Additions = (f : Filter) (a : ℕ) → isGood f ≡ true → Addition f a
 
--- ---- one address removed
+-- ---- one address removed: the skips and the place are those of `Removed`
 
 -- the list held after the message that removes an address
 abbrev pub afterRemoving : Filter → ℕ → List Entry
 afterRemoving f a = held (afterMessage 0x02 f (a ∷ []))
 
 pub record Removal (f : Filter) (a : ℕ) : Type 0 where
+  pub list : Removed (held f) a (afterRemoving f a)
+  -- every other address stays, in order
   pub others : afterRemoving f a ≡ allBut a (held f)
-  -- "every address before the place stays, every one after it moves down by one"
-  pub around : (before : List Entry) (e : Entry) (after : List Entry) → held f ≡ before ++ e ∷ after → e .address ≡ a
-      → afterRemoving f a ≡ before ++ after
+  pub type : afterMessage 0x02 f (a ∷ []) .kind ≡ f .kind
 
 abbrev pub Removals : Type 0
 Removals = (f : Filter) (a : ℕ) → isGood f ≡ true → Removal f a

@@ -1,7 +1,6 @@
 -- The promises of `specs/Promises.antt`. A record line is cut at its commas, which no field holds, and each field is read back.
 use Prim.Native.Nat.{ℕ, zero, suc, _+_, _*_, _-_, _/_, _%_, _≤_, _<_}
 use native.Mathlib.Omega.{arith}
-use mathlib.Core.Bool.{true, false}
 use mathlib.Core.List.{List, [], _∷_, _++_, map}
 use mathlib.Core.Path.{_≡_, refl, sym, ap, ap₂, _∙_}
 use lib.Dec.{leb, eqb}
@@ -15,9 +14,7 @@ use Rattle.transactions.specs.declared.Socket.{Socket}
 use Rattle.pb_adv.proofs.Promises.{id-back}
 use Rattle.transactions.specs.declared.TransactionNumber.{TransactionNumber}
 use Rattle.provisioning.specs.Message.{told}
-use Rattle.provisioning.specs.Promises.{messageOctets}
 use Rattle.provisioning.specs.declared.Capabilities.{Capabilities}
-use Rattle.provisioning.specs.declared.Message.the-variants as M
 use Rattle.provisioning.proofs.Promises.{capabilities-in-place, fields-are-octets}
 use Rattle.line_fields.specs.Lines.{digitsUpTo, decimalOf, hexadecimalOf, fieldText, endBefore, lineOf}
 use Rattle.stock_record.specs.Texts.{recordFields, recordLine}
@@ -238,11 +235,10 @@ module _ (x y : Imported) (h : recordLine (x .socket) (x .id) (x .number) (x .ca
       }
 
   same-octets : x .octets ≡ y .octets
-  unfolding messageOctets
   same-octets =
-      sym (fields-are-octets (x .octets) (x .areOctets) (M.Capabilities (x .capabilities)) (x .accepted) tt)
-      ∙ ap (λ (c : Capabilities). messageOctets (x .octets) (M.Capabilities c)) same-capabilities
-      ∙ fields-are-octets (y .octets) (y .areOctets) (M.Capabilities (y .capabilities)) (y .accepted) tt
+      let a = fields-are-octets (x .octets) (x .areOctets) .capabilities _ (ap told (x .accepted)) in
+      let b = fields-are-octets (y .octets) (y .areOctets) .capabilities _ (ap told (y .accepted)) in
+      cc same-capabilities
 
   same-socket : x .socket ≡ y .socket
   unfolding fieldText
