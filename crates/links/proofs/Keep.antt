@@ -143,7 +143,7 @@ module _ (side : Side) (x : OneLink) (room : length (x .part) ≡ 1469) (lastGoo
             first = λ _. g .first;
             above = g .above;
           }
-      receives h k o (begins n c e z some few) =
+      receives h k o (begins n c e z some few none) =
           rw e (record {
             number = sent;
             some-octets = some;

@@ -89,6 +89,7 @@ module _ (side : Side) (σ : Station) (socket : Socket) where
     since : List Operation
     split : past ≡ before ++ (start ∷ since)
     opened : OpenUnder id (getLink s (after before))
+    began : (g : HalfMessage) → getLink s (after before) .link .half ≡ H.Message g → g .number ≢ h .number
     held : BeforeEach (operate side) (λ τ. Receiving id (h .number) (h .length) (getLink s τ)) (after (before ++ (start ∷ []))) since
     first : start ≡ standing id p h 0
     came : (k : ℕ) → k ≤ segN (h .length) → isMarked (h .marks) k ≡ true → List·Memᴰ (standing id p h k) (start ∷ since)
@@ -122,6 +123,7 @@ module _ (side : Side) (σ : Station) (socket : Socket) where
       split = i .split;
       isStart = i .first ∙ sym (frame-same 0);
       opened = i .opened;
+      began = i .began;
       held = rw long (i .held);
       cut = λ f g.
           let r = of-cut id (h .number) message (suc (segN (length message))) f g in
@@ -149,6 +151,7 @@ module _ (side : Side) (σ : Station) (socket : Socket) where
       since = i .since ++ (c ∷ []);
       split = ap (λ (l : List Operation). l ++ (c ∷ [])) (i .split) ∙ append-assoc (i .before) (i .start ∷ i .since) (c ∷ []);
       opened = i .opened;
+      began = i .began;
       held = before-each-snoc (operate side) _ σ (i .before) (i .start) (i .since) c (i .held) (rw (← (i .split)) now);
       first = i .first ∙ e;
       came = g;
@@ -183,7 +186,7 @@ module _ (side : Side) (σ : Station) (socket : Socket) where
 
       lengths : Origin here t header d h k → (1 ≤ h .length) × (h .length ≤ length (here .part))
       lengths (held e) = let g = good-half e in (g .some-octets, omega (arith, g .few-octets))
-      lengths (begins m v e z some few) = rw e (some, omega arith)
+      lengths (begins m v e z some few _) = rw e (some, omega arith)
 
       some : 1 ≤ h .length
       some = lengths (n .origin) .0
@@ -208,12 +211,13 @@ module _ (side : Side) (σ : Station) (socket : Socket) where
               (λ j b u. cases (eqb k j)
               (λ z. rw (← (eqb-true k j z)) (Memᴰ·append-right (r .1 .start ∷ r .1 .since) (List·Memᴰ·head arrived)))
               (λ z. let y = eqb-false k j z in Memᴰ·append-left (c ∷ []) (Memᴰ·cast (sym (other j y)) (r .1 .came j b (sym (marked-other (h .marks) k j y) ∙ u)))))
-          from (begins m v e z _ _) = record {
+          from (begins m v e z _ _ none) = record {
             before = past;
             start = c;
             since = [];
             split = refl;
             opened = record { isOpen = opened; hasId = refl };
+            began = λ g q r. none g q (r ∙ n .number);
             held = tt;
             first = sym arrived ∙ ap (standing id written h) z;
             came = λ j b u. cases (eqb k j)

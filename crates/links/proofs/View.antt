@@ -3,10 +3,11 @@ use Prim.Native.Nat.{ℕ, zero, suc, _≤_}
 use native.Mathlib.Omega.{arith}
 use mathlib.Core.Bool.{true, false, _&&_}
 use mathlib.Core.List.{List}
+use mathlib.Core.Logic.{_≢_}
 use mathlib.Core.Path.{_≡_, refl, sym, ap, ap₂, _∙_}
 use lib.Dec.{eqb, leb}
 use lib.ListN.{length}
-use borrow.Author.Tests.{eqb-true, leb-true}
+use borrow.Author.Tests.{eqb-true, leb-true, eqb-false}
 use Rattle.octets.specs.Parts.{same}
 use Rattle.octets.specs.Cut.{piece}
 use Rattle.octets.proofs.Tests.{cases, both-hold}
@@ -70,7 +71,7 @@ module _ (x : OneLink) (t : TransactionNumber) (header : SegmentHeader) (d : Lis
   -- the half-received message that a new segment k is of
   pub data Origin (h : HalfMessage) (k : ℕ) : Type 0 where
     held : x .link .half ≡ H.Message h → Origin h k
-    begins : (n c : ℕ) → h ≡ begun t n c → k ≡ 0 → 1 ≤ n → n ≤ 1469 → Origin h k
+    begins : (n c : ℕ) → h ≡ begun t n c → k ≡ 0 → 1 ≤ n → n ≤ 1469 → ((g : HalfMessage) → x .link .half ≡ H.Message g → g .number ≢ t) → Origin h k
 
   pub record New (h : HalfMessage) (k : ℕ) : Type 0 where
     pub origin : Origin h k
@@ -107,15 +108,15 @@ module _ (x : OneLink) (t : TransactionNumber) (header : SegmentHeader) (d : Lis
         }) refl))))
         (λ c. rw c (asItWas (A.Refused R.Mismatch) tt refl))
 
-    view-begins : (n c : ℕ) → header ≡ Start n c → View (entered x (begun t n c) 0 d)
-    view-begins n c this =
+    view-begins : (n c : ℕ) → header ≡ Start n c → ((g : HalfMessage) → x .link .half ≡ H.Message g → g .number ≢ t) → View (entered x (begun t n c) 0 d)
+    view-begins n c this none =
         let w : Fits (Start n c) (length d) = rw this at fits in
         new (begun t n c) 0
-        (record { origin = begins n c refl refl (w .0) (w .1); number = refl; other = other; missing = none-marked 0; inside = omega arith; right = omega (arith, w .2); this = this })
+        (record { origin = begins n c refl refl (w .0) (w .1) none; number = refl; other = other; missing = none-marked 0; inside = omega arith; right = omega (arith, w .2); this = this })
         refl
 
     view-half : (o : HalfReceived) → x .link .half ≡ o → (g : SegmentHeader) → header ≡ g → View (onHalf x o t g d)
-    view-half H.Nothing e (Start n c) q = view-begins n c q
+    view-half H.Nothing e (Start n c) q = view-begins n c q (λ g u. let z : _≡_ {A = ℕ} 0 1 = cc in absurd (omega arith))
     view-half H.Nothing e (Continuation k) q = asItWas (A.Refused R.NotBegun) tt refl
     view-half (H.Message h) e (Start n c) q =
         cases (eqb (h .number .0) (t .0))
@@ -123,7 +124,7 @@ module _ (x : OneLink) (t : TransactionNumber) (header : SegmentHeader) (d : Lis
         (λ u. let p = both-hold {a = eqb (h .length) n} {b = eqb (h .check) c} u in
         rw u (view-offered h e en 0 (q ∙ sym (ap₂ Start (eqb-true (h .length) n (p .0)) (eqb-true (h .check) c (p .1))))))
         (λ u. rw u (asItWas (A.Refused R.Mismatch) tt refl))))
-        (λ en. rw en (view-begins n c q))
+        (λ en. rw en (view-begins n c q (λ g u v. let z : h ≡ g = cc in eqb-false (h .number .0) (t .0) en (ap (λ (j : HalfMessage). j .number .0) z ∙ ap (λ (j : TransactionNumber). j .0) v))))
     view-half (H.Message h) e (Continuation k) q =
         let w : Fits (Continuation k) (length d) = rw q at fits in
         cases (eqb (h .number .0) (t .0))

@@ -101,9 +101,9 @@ pub record Receiving (id : ℕ) (t : TransactionNumber) (n : ℕ) (x : OneLink) 
   pub long : half .length ≡ n
 
 module _ (side : Side) (σ : Station) where
-  -- The message m came to socket s by its cut alone, with a Link ID and under its number: a Start began it while the link was open under the Link ID;
-  -- before each operation since, the link was open under it with the message half-received, so nothing closed it and no other message took its
-  -- place; and every frame of the cut is among the operations from that Start on.
+  -- The message m came to socket s by its cut alone, with a Link ID and under its number: a Start began it, while the link was open under the Link ID with
+  -- no message of that number half-received; before each operation since, the link was open under it with the message half-received, so nothing closed
+  -- it and no other message took its place; and every frame of the cut is among the operations from that Start on.
   pub record CameByCut (s : Socket) (id : ℕ) (m : Message) (operations : List Operation) : Type 0 where
     pub before : List Operation
     pub start : Operation
@@ -111,6 +111,7 @@ module _ (side : Side) (σ : Station) where
     pub split : operations ≡ before ++ (start ∷ since)
     pub isStart : start ≡ receiving (segmentFrame id (m .number) (m .octets) 0)
     pub opened : OpenUnder id (ofSocket s (afterAll side σ before))
+    pub began : (h : HalfMessage) → ofSocket s (afterAll side σ before) .link .half ≡ H.Message h → h .number ≢ m .number
     pub held : BeforeEach (operate side) (λ τ. Receiving id (m .number) (length (m .octets)) (ofSocket s τ)) (afterAll side σ (before ++ (start ∷ []))) since
     pub cut : (f : List ℕ) → List·Memᴰ f (messageFrames id (m .number) (m .octets)) → List·Memᴰ (receiving f) (start ∷ since)
 
