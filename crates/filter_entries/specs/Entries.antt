@@ -1,4 +1,4 @@
--- The entries of a filter, and the lookup on which every rule rests.
+-- The entries of a filter, and the lookup of an address.
 use Prim.Native.Nat.{ℕ, suc}
 use mathlib.Core.Bool.{Bool, true, false, _&&_, _||_, not, cond}
 use mathlib.Core.List.{List, [], _∷_}

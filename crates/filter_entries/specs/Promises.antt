@@ -6,9 +6,10 @@ use mathlib.Core.List.{List, [], _∷_, _++_}
 use mathlib.Core.Logic.{_≢_}
 use mathlib.Core.Path.{_≡_}
 use lib.ListN.{length}
+use Rattle.filter_messages.specs.declared.Change.{Change}
 use Rattle.filter_messages.specs.declared.Change.the-variants.{Add, Remove}
 use Rattle.filter_entries.specs.Entries.{entry, isOn}
-use Rattle.filter_entries.specs.Changes.{changed}
+use Rattle.filter_entries.specs.Changes.{changed, changedAll}
 use Rattle.filter_entries.specs.declared.Entry.{Entry}
 
 -- the list l, and what it is once a was added
@@ -28,6 +29,14 @@ pub record Removed (l : List Entry) (a : ℕ) (result : List Entry) : Type 0 whe
   -- the two skips
   pub zero : a ≡ 0 → result ≡ l
   pub absent : isOn l a ≡ false → result ≡ l
+
+-- "Each address in turn": first the first one, and then the others
+pub record InTurn (c : Change) (l : List Entry) : Type 0 where
+  pub none : changedAll c l [] ≡ l
+  pub first : (a : ℕ) (more : List ℕ) → changedAll c l (a ∷ more) ≡ changedAll c (changed c l a) more
+
+abbrev pub AllInTurn : Type 0
+AllInTurn = (c : Change) (l : List Entry) → InTurn c l
 
 abbrev pub AllAdded : Type 0
 AllAdded = (l : List Entry) (a : ℕ) → Added l a (changed Add l a)

@@ -1,4 +1,4 @@
--- The table of `specs/Tables.antt`.
+-- The table and the status of `specs/Tables.antt`.
 use Prim.Native.Nat.{ℕ, _-_, _%_}
 use native.Mathlib.Omega.{arith}
 use mathlib.Core.Bool.{false, _&&_, _||_, not}
@@ -13,7 +13,7 @@ use Rattle.octets.specs.Tables.{firstOf}
 use Rattle.octets.proofs.Tables.{by-table, first-behind, first-before}
 use Rattle.octets.proofs.Tests.{cases, lt-not-le, not-both}
 use Rattle.filter_messages.specs.Messages.{typeOf, changeOf, requestOf, typeNumber, refusalNumber, requestTold}
-use Rattle.filter_messages.specs.Tables.{messageRefusals, requests, requestRows, RequestTable}
+use Rattle.filter_messages.specs.Tables.{messageRefusals, requests, requestRows, RequestTable, AllStatusesSay}
 use Rattle.filter_messages.specs.declared.FilterType.{FilterType}
 use Rattle.filter_messages.specs.declared.FilterType.the-variants.{AcceptList, RejectList}
 use Rattle.filter_messages.specs.declared.Change.{Change}
@@ -78,3 +78,6 @@ first-row m q (changes Remove e o) = first-behind (messageRefusals m) (requests 
 
 pub request-table : RequestTable
 request-table m = by-table (requestTold (requestOf m)) (requestRows m) refl (first-row m (requestOf m) (asks m))
+
+pub all-statuses-say : AllStatusesSay
+all-statuses-say count = record { accept = refl; reject = refl }

@@ -1,11 +1,13 @@
--- The table of what a filter message asks for, to be held beside document 01. The proof is `proofs/Tables.antt`.
-use Prim.Native.Nat.{ℕ, _-_, _%_}
+-- The table of what a filter message asks for, and the status, to be held beside document 01. The proofs are `proofs/Tables.antt`.
+use Prim.Native.Nat.{ℕ, _-_, _/_, _%_}
 use mathlib.Core.Bool.{Bool, _&&_, _||_, not, cond}
 use mathlib.Core.List.{List, [], _∷_, _++_}
+use mathlib.Core.Path.{_≡_}
 use lib.Dec.{ltb, eqb}
 use lib.ListN.{length, getD}
 use Rattle.octets.specs.Tables.{Row, refusal, reply, ByTable}
-use Rattle.filter_messages.specs.Messages.{requestOf, requestTold}
+use Rattle.filter_messages.specs.Messages.{requestOf, requestTold, statusOctets}
+use Rattle.filter_messages.specs.declared.FilterType.the-variants.{AcceptList, RejectList}
 
 -- "Opcode 0 has one octet."; 1 and 2 have "any even number of octets up to 32, none allowed"
 abbrev pub isWrongLength : ℕ → ℕ → Bool
@@ -35,3 +37,11 @@ requestRows m = messageRefusals m ++ requests m
 
 abbrev pub RequestTable : Type 0
 RequestTable = (m : List ℕ) → ByTable (requestTold (requestOf m)) (requestRows m)
+
+-- "The answer is 03, type, count in two octets."
+pub record StatusSays (count : ℕ) : Type 0 where
+  pub accept : statusOctets AcceptList count ≡ 0x03 ∷ 0 ∷ count / 256 ∷ count % 256 ∷ []
+  pub reject : statusOctets RejectList count ≡ 0x03 ∷ 1 ∷ count / 256 ∷ count % 256 ∷ []
+
+abbrev pub AllStatusesSay : Type 0
+AllStatusesSay = (count : ℕ) → StatusSays count

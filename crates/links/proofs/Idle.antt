@@ -171,9 +171,10 @@ is-kept receive t =
 
 first-stays : (receive : Receiver) → ServesFirst receive → told (receive Provisioner station (segment 0) .0) ≡ answered "kept" []
     → receive Provisioner (receive Provisioner station (segment 0) .1) (segment 1) .1 ≡ receive Provisioner station (segment 0) .1
-unfolding getLink upTo
+unfolding getLink upTo segmentFrame segmentOctets headerOf
 first-stays receive h =
     h Provisioner station first long (prepared (replicate 44 0) (omega arith) (omega arith)) (segment 0) (segment 1) (List·Memᴰ·head refl) (List·Memᴰ·tail (List·Memᴰ·head refl))
+    (λ e. let z : _≡_ {A = ℕ} 8 6 = ap (λ (l : List ℕ). getD l 5 0) e in omega arith)
 
 serves-first : (receive : Receiver) → ServesFirst receive → ReceivingTable receive → Demand3 receive → ⊥
 serves-first receive h t d =

@@ -101,7 +101,7 @@ pub record Receiving (id : ℕ) (t : TransactionNumber) (n : ℕ) (x : OneLink) 
   pub long : half .length ≡ n
 
 module _ (side : Side) (σ : Station) where
-  -- The message m came to socket s by its cut alone, with a Link ID and under its number: a Start began it, while the link was open under the Link ID with
+  -- The message m came to socket s by its cut, with a Link ID and under its number: a Start began it, while the link was open under the Link ID with
   -- no message of that number half-received; before each operation since, the link was open under it with the message half-received, so nothing closed
   -- it and no other message took its place; and every frame of the cut is among the operations from that Start on.
   pub record CameByCut (s : Socket) (id : ℕ) (m : Message) (operations : List Operation) : Type 0 where
@@ -116,7 +116,7 @@ module _ (side : Side) (σ : Station) where
     pub cut : (f : List ℕ) → List·Memᴰ f (messageFrames id (m .number) (m .octets)) → List·Memᴰ (receiving f) (start ∷ since)
 
   -- the frame f, received after those operations, delivers at socket s, with such values, a message of that length and number: its octets stand at
-  -- the start of the socket's part and came by their cut alone, with the link's Link ID
+  -- the start of the socket's part and came by their cut, with the link's Link ID
   pub record FromCut (s : Socket) (operations : List Operation) (f values : List ℕ) : Type 0 where
     pub message : Message
     pub valued : values ≡ length (message .octets) ∷ message .number .0 ∷ []

@@ -2,6 +2,7 @@
 -- `proofs/Idle.antt`.
 use Prim.Native.Nat.{ℕ}
 use mathlib.Core.List.{List, [], List·Memᴰ}
+use mathlib.Core.Logic.{_≢_}
 use mathlib.Core.Path.{_≡_}
 use Rattle.octets.specs.Told.{refused, answered}
 use Rattle.transactions.specs.declared.Socket.{Socket}
@@ -33,7 +34,7 @@ module _ (receive : Receiver) where
   abbrev pub ServesFirst : Type 0
   ServesFirst =
       (side : Side) (σ : Station) (s : Socket) (m : Message) → Prepared side σ s m
-      → (f g : List ℕ) → List·Memᴰ f (cutAt (own side σ s m) m) → List·Memᴰ g (cutAt (own side σ s m) m) → told (receive side σ f .0) ≡ answered "kept" []
+      → (f g : List ℕ) → List·Memᴰ f (cutAt (own side σ s m) m) → List·Memᴰ g (cutAt (own side σ s m) m) → f ≢ g → told (receive side σ f .0) ≡ answered "kept" []
       → receive side (receive side σ f .1) g .1 ≡ receive side σ f .1
 
 pub record IdlePrograms : Type 0 where

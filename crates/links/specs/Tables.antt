@@ -1,6 +1,6 @@
 -- DOCUMENT 01'S TABLE of a receiving call: each answer with what it is given for, in the order of the checks; and the tables of the local calls. Rows
--- are written from the frame's octets and the records, and not by the tests of the rules, so that a changed test is refused. The proofs are
--- `proofs/Tables.antt`.
+-- are written from the frame's octets and the records, so that a changed test of the rules is refused; what they share with the rules, as `good`, `find`
+-- and the marks, has statements of its own. The proofs are `proofs/Tables.antt`.
 use Prim.Native.Nat.{ℕ, _*_, _-_}
 use mathlib.Core.Bool.{Bool, true, false, _&&_, _||_, cond, not}
 use mathlib.Core.List.{List, [], _∷_}

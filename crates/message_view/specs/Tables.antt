@@ -1,5 +1,5 @@
--- The table of a read of one field, to be held beside document 01: written from the octets, the place and what is wanted, and by none of the
--- definitions of `Reading.antt` but `told`. The proofs are `proofs/Tables.antt`.
+-- The table of a read of one field, to be held beside document 01: its rows are written from the octets, the place and what is wanted. The proofs are
+-- `proofs/Tables.antt`.
 use Prim.Native.Nat.{ℕ, _+_}
 use mathlib.Core.Bool.{Bool, true, cond}
 use mathlib.Core.List.{List, [], _∷_}

@@ -3,14 +3,15 @@ use Prim.Native.Nat.{ℕ, zero, suc, _+_, _-_, _<_, _≤_}
 use native.Mathlib.Nat.{add-zero, zero-add, suc-sub-suc, zero-sub, sub-zero}
 use native.Mathlib.Numerals.{add-one}
 use native.Mathlib.Omega.{arith}
-use mathlib.Core.Bool.{true, _&&_}
+use mathlib.Core.Bool.{true, _&&_, false≢true, and-eq-true-iff}
 use mathlib.Core.List.{List, [], _∷_, _++_, append-assoc, append-nil}
-use mathlib.Core.Path.{_≡_, refl, sym, ap, _∙_}
+use mathlib.Core.Path.{_≡_, refl, sym, ap, ap₂, _∙_}
 use lib.Dec.{eqb}
 use lib.ListN.{length, take, drop, set, getD, length-append, length-drop, take-append-drop, drop-of-length-le}
 use lib.Seq.{take-append-le, take-take, take-at, drop-at, drop-drop, take-add, length-take-le, set-at, drop-cons, append-snoc, take-nil, take-length, take-all}
-use borrow.Author.Tests.{le-leb, eq-eqb}
+use borrow.Author.Tests.{le-leb, eq-eqb, eqb-true}
 use Rattle.octets.specs.Parts.{part, write, copied, same, samePart}
+use Rattle.octets.specs.Promises.{SameExactly}
 
 pub part-length : (l : List ℕ) (from count : ℕ) → from + count ≤ length l → length (part l from count) ≡ count
 part-length l from count h = length-take-le count (drop from l) (omega (arith, length-drop from l))
@@ -141,6 +142,17 @@ copied-next l at d x next e h =
 pub same-refl : (l : List ℕ) → same l l ≡ true
 same-refl [] = refl
 same-refl (x ∷ l) = rw (eq-eqb x x refl) (same-refl l)
+
+same-equal : (l m : List ℕ) → same l m ≡ true → l ≡ m
+same-equal [] [] e = refl
+same-equal [] (y ∷ m) e = absurd (false≢true e)
+same-equal (x ∷ l) [] e = absurd (false≢true e)
+same-equal (x ∷ l) (y ∷ m) e =
+    let b = and-eq-true-iff (eqb x y) (same l m) .0 e in
+    ap₂ _∷_ (eqb-true x y (b .0)) (same-equal l m (b .1))
+
+pub same-exactly : SameExactly
+same-exactly l m = (same-equal l m, λ e. rw e (same-refl m))
 
 -- one octet taken off both
 pub same-step : (a b : List ℕ) (j : ℕ) → j < length a → j < length b

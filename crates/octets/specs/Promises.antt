@@ -1,13 +1,20 @@
--- What is promised of every writer to a lent output. The proofs are `refusal-keeps`, `writes-front` and `writer-table` of `proofs/Writing.antt`.
+-- What is promised of two lists compared, and of every writer whose contract is `written` and `outputAfter`. The proofs are `same-exactly` of
+-- `proofs/Parts.antt`; `refusal-keeps`, `writes-front` and `writer-table` of `proofs/Writing.antt`.
 use Prim.Native.Nat.{ℕ}
 use mathlib.Core.Bool.{Bool, true, _||_, not}
 use mathlib.Core.List.{List, [], _∷_, _++_}
+use mathlib.Core.Logic.{_↔_}
 use mathlib.Core.Path.{_≡_}
 use lib.Dec.{ltb}
 use lib.ListN.{length, drop}
+use Rattle.octets.specs.Parts.{same}
 use Rattle.octets.specs.Told.{refused, answered}
 use Rattle.octets.specs.Tables.{Row, refusal, reply, ByTable}
 use Rattle.octets.specs.Writing.{told, written, outputAfter}
+
+-- lists are the same exactly when they are equal
+abbrev pub SameExactly : Type 0
+SameExactly = (l m : List ℕ) → (same l m ≡ true) ↔ (l ≡ m)
 
 -- a refused writer leaves its output as it was
 abbrev pub RefusalKeeps : Type 0

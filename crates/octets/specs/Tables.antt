@@ -1,5 +1,5 @@
 -- A table of answers in the order in which they are tried: each is "given exactly when" what it is given for holds and nothing of an earlier row
--- does. The refusals of each section of document 01 are stated by such tables.
+-- does. The refusals of document 01's calls are stated by such tables.
 use Prim.Native.Nat.{ℕ}
 use Prim.Native.String.{String}
 use mathlib.Core.Bool.{Bool, true, _&&_, not, cond}

@@ -1,5 +1,5 @@
 -- The promises of `specs/Promises.antt`.
-use Prim.Native.Nat.{ℕ, zero, suc, _≤_}
+use Prim.Native.Nat.{ℕ, zero, suc, _≤_, min}
 use native.Mathlib.Omega.{arith}
 use mathlib.Core.Bool.{Bool, true}
 use mathlib.Core.List.{List, [], _∷_, _++_, map}
@@ -10,10 +10,12 @@ use lib.Seq.{take-all}
 use borrow.Author.Tests.{leb-true, eqb-true}
 use Rattle.octets.specs.Parts.{write}
 use Rattle.octets.specs.Cut.{upTo, placed}
+use Rattle.octets.specs.Told.{answered}
 use Rattle.octets.proofs.Writing.{wrote}
 use Rattle.octets.proofs.Cut.{placed-cut, map-up-to}
 use Rattle.octets.proofs.Tests.{both-hold}
-use Rattle.transactions.specs.Segments.{segN, segmentPlace, segment}
+use Rattle.fcs.specs.Fcs.{checkOctet}
+use Rattle.transactions.specs.Segments.{segN, segmentPlace, segmentLength, segment}
 use Rattle.pb_adv.specs.Frame.{parsed, carried, indexOf, acknowledgementOctets, openOctets, ackOctets, closeOctets, controlOf, isUuid}
 use Rattle.pb_adv.specs.Promises.{segmentSaid, Fits}
 use Rattle.transactions.specs.declared.TransactionNumber.{TransactionNumber}
@@ -21,7 +23,7 @@ use Rattle.pb_adv.specs.declared.Parsed.{Parsed}
 use Rattle.transactions.proofs.Laws.{segment-begins, segN-small, segment-long}
 use Rattle.pb_adv.proofs.Promises.{id-back, by-kind, parsed-segment, carried-segment}
 use Rattle.pb_adv_writing.specs.Writing.{headerOf, segmentFrame, isSegment, SegmentAsked}
-use Rattle.pb_adv_writing.specs.Promises.{GivesBack, WritersGiveBack, putSegment, putFrames, CutJoins}
+use Rattle.pb_adv_writing.specs.Promises.{GivesBack, parsedTold, WritersGiveBack, AllFramesSay, ControlNumbers, putSegment, putFrames, CutJoins}
 use Rattle.pb_adv_writing.proofs.Laws.{segment-asked}
 
 -- ---- writers
@@ -70,6 +72,30 @@ writers-give-back = record {
   close-back = λ id reason output.
       gives-back true (closeOctets id reason) output _ [] (λ e. (by-kind id 0 11 (reason ∷ []) (omega arith) ∙ rw (id-back id), refl));
 }
+
+-- ---- what frames say
+
+start-says : (id : ℕ) (t : TransactionNumber) (m : List ℕ) → SegmentAsked m 0
+    → parsedTold (segmentFrame id t m 0) ≡ answered "Start" (id ∷ t .0 ∷ length m ∷ checkOctet m ∷ 9 ∷ min 20 (length m) ∷ [])
+unfolding headerOf
+start-says id t m a = rw (parsed-frame id t m 0 a, segment-fits m 0 a .2)
+
+continuation-says : (id : ℕ) (t : TransactionNumber) (m : List ℕ) (k : ℕ) → 1 ≤ k → SegmentAsked m k
+    → parsedTold (segmentFrame id t m k) ≡ answered "Continuation" (id ∷ t .0 ∷ k ∷ 6 ∷ segmentLength (length m) k ∷ [])
+unfolding headerOf
+continuation-says id t m zero b a = absurd (omega arith)
+continuation-says id t m (suc k) b a = rw (parsed-frame id t m (suc k) a, segment-long m (suc k))
+
+pub all-frames-say : AllFramesSay
+all-frames-say id t m e =
+    let b = both-hold {a = leb 1 (length m)} {b = leb (length m) 1469} e in
+    let asked : (k : ℕ) → k ≤ segN (length m) → SegmentAsked m k =
+    λ k h. record { some-octets = leb-true 1 (length m) (b .0); few-octets = leb-true (length m) 1469 (b .1); index = h } in
+    record { start = start-says id t m (asked 0 (omega arith)); continuation = λ k h i. continuation-says id t m k h (asked k i) }
+
+pub control-numbers : ControlNumbers
+unfolding openOctets ackOctets closeOctets
+control-numbers = record { opening = λ id uuid. refl; ack = λ id. refl; close = λ id reason. refl }
 
 -- ---- the cut, joined by place
 

@@ -1,2 +1,3 @@
 pub mod Writing
+pub mod Tables
 pub mod Promises

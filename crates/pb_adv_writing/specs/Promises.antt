@@ -1,14 +1,15 @@
 -- What is promised of the writers and of the cut of a message. The proofs are `proofs/Promises.antt`.
-use Prim.Native.Nat.{ℕ, _≤_}
+use Prim.Native.Nat.{ℕ, _≤_, min}
 use mathlib.Core.Bool.{Bool, true}
 use mathlib.Core.List.{List, [], _∷_, _++_}
 use mathlib.Core.Path.{_≡_}
 use lib.ListN.{length, take, drop}
 use Rattle.octets.specs.Parts.{part, write}
-use Rattle.octets.specs.Told.{answered}
+use Rattle.octets.specs.Told.{Told, answered}
 use Rattle.octets.specs.Writing.{told, written, outputAfter}
-use Rattle.transactions.specs.Segments.{isLength, segmentPlace, segment}
-use Rattle.pb_adv.specs.Frame.{parsed, carried, indexOf, acknowledgementOctets, openOctets, ackOctets, closeOctets, isUuid}
+use Rattle.fcs.specs.Fcs.{checkOctet}
+use Rattle.transactions.specs.Segments.{isLength, segN, segmentPlace, segmentLength, segment}
+use Rattle.pb_adv.specs.Frame.{numberOf, parsed, carried, indexOf, told as frameTold, acknowledgementOctets, openOctets, ackOctets, closeOctets, isUuid}
 use Rattle.pb_adv.specs.Promises.{segmentSaid}
 use Rattle.transactions.specs.declared.TransactionNumber.{TransactionNumber}
 use Rattle.pb_adv.specs.declared.Parsed.{Parsed}
@@ -21,6 +22,10 @@ GivesBack right frame output p d =
     (n : ℕ) → told (written right frame output) ≡ answered "written" (n ∷ [])
     → (parsed (take n (outputAfter right frame output)) ≡ p) × (carried (take n (outputAfter right frame output)) p ≡ d)
 
+-- what octets say as a frame
+abbrev pub parsedTold : List ℕ → Told
+parsedTold f = frameTold (parsed f)
+
 -- so for each of the five writers
 pub record WritersGiveBack : Type 0 where
   pub segment-back : (id : ℕ) (t : TransactionNumber) (m : List ℕ) (k : ℕ) (output : List ℕ)
@@ -29,6 +34,22 @@ pub record WritersGiveBack : Type 0 where
   pub open-back : (id : ℕ) (uuid output : List ℕ) → GivesBack (isUuid uuid) (openOctets id uuid) output (P.Open id 6) uuid
   pub ack-back : (id : ℕ) (output : List ℕ) → GivesBack true (ackOctets id) output (P.Ack id) []
   pub close-back : (id reason : ℕ) (output : List ℕ) → GivesBack true (closeOctets id reason) output (P.Close id reason) []
+
+-- the frames of a message's cut in words: "Start: high bits SegN; length L in 2 octets; check octet; segment 0", the check octet "over the message";
+-- "Continuation: high bits the segment number; the segment"
+pub record FramesSay (id : ℕ) (t : TransactionNumber) (m : List ℕ) : Type 0 where
+  pub start : parsedTold (segmentFrame id t m 0) ≡ answered "Start" (id ∷ t .0 ∷ length m ∷ checkOctet m ∷ 9 ∷ min 20 (length m) ∷ [])
+  pub continuation : (k : ℕ) → 1 ≤ k → k ≤ segN (length m)
+      → parsedTold (segmentFrame id t m k) ≡ answered "Continuation" (id ∷ t .0 ∷ k ∷ 6 ∷ segmentLength (length m) k ∷ [])
+
+abbrev pub AllFramesSay : Type 0
+AllFramesSay = (id : ℕ) (t : TransactionNumber) (m : List ℕ) → isLength (length m) ≡ true → FramesSay id t m
+
+-- "Number written 0" in an Open, an Ack and a Close
+pub record ControlNumbers : Type 0 where
+  pub opening : (id : ℕ) (uuid : List ℕ) → numberOf (openOctets id uuid) .0 ≡ 0
+  pub ack : (id : ℕ) → numberOf (ackOctets id) .0 ≡ 0
+  pub close : (id reason : ℕ) → numberOf (closeOctets id reason) .0 ≡ 0
 
 -- a list with the octets of a parsed frame written at its segment's place; other frames write nothing
 abbrev pub putSegment : List ℕ → List ℕ → Parsed → List ℕ

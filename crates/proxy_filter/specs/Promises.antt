@@ -113,7 +113,7 @@ AllLearnAs = (f : Filter) (s : ℕ) → isGood f ≡ true → isUnicast s ≡ tr
 -- ---- learning, then passing
 
 pub record Learning (f : Filter) (s : ℕ) : Type 0 where
-  -- with an accept list that has room, or has the source already, and with a reject list the source passes from now on
+  -- with an accept list that has room, or has the source already, and with a reject list the source passes after it
   pub accept-room : f .kind ≡ AcceptList → length (held f) < 16 → passTold (passing (learned f s .filter) s) ≡ answered "passes" []
   pub accept-there : f .kind ≡ AcceptList → isOn (held f) s ≡ true → passTold (passing (learned f s .filter) s) ≡ answered "passes" []
   pub reject : f .kind ≡ RejectList → passTold (passing (learned f s .filter) s) ≡ answered "passes" []
