@@ -12,7 +12,7 @@ use Rattle.octets.proofs.Tests.{cases}
 use Rattle.filter_messages.specs.declared.Change.the-variants.{Add, Remove}
 use Rattle.filter_entries.specs.Entries.{entry, isOn, find, findFrom}
 use Rattle.filter_entries.specs.Changes.{changed, changedAt}
-use Rattle.filter_entries.specs.Promises.{AllInTurn, AllAdded, AllRemoved}
+use Rattle.filter_entries.specs.Promises.{AllOneByOne, AllAdded, AllRemoved}
 use Rattle.filter_entries.specs.declared.Entry.{Entry}
 use Rattle.filter_entries.specs.declared.Place.{Place}
 use Rattle.filter_entries.specs.declared.Place.the-variants.{At, Nowhere}
@@ -68,5 +68,7 @@ all-removed l a = record {
   absent = λ n. cases (eqb a 0) (λ z. rw z) (λ z. rw z (remove-at (find l a) l a (sym (on-found l a 0) ∙ n)));
 }
 
-pub all-in-turn : AllInTurn
-all-in-turn c l = record { none = refl; first = λ a more. refl }
+-- ---- each in turn
+
+pub all-one-by-one : AllOneByOne
+all-one-by-one c l = record { none = refl; first = λ a more. refl }

@@ -31,12 +31,12 @@ pub record Removed (l : List Entry) (a : ℕ) (result : List Entry) : Type 0 whe
   pub absent : isOn l a ≡ false → result ≡ l
 
 -- "Each address in turn": first the first one, and then the others
-pub record InTurn (c : Change) (l : List Entry) : Type 0 where
+pub record OneByOne (c : Change) (l : List Entry) : Type 0 where
   pub none : changedAll c l [] ≡ l
   pub first : (a : ℕ) (more : List ℕ) → changedAll c l (a ∷ more) ≡ changedAll c (changed c l a) more
 
-abbrev pub AllInTurn : Type 0
-AllInTurn = (c : Change) (l : List Entry) → InTurn c l
+abbrev pub AllOneByOne : Type 0
+AllOneByOne = (c : Change) (l : List Entry) → OneByOne c l
 
 abbrev pub AllAdded : Type 0
 AllAdded = (l : List Entry) (a : ℕ) → Added l a (changed Add l a)

@@ -12,7 +12,8 @@ use borrow.Author.Tests.{ltb-true}
 use Rattle.octets.specs.Numbers.{Octets}
 use Rattle.octets.specs.Parts.{write}
 use Rattle.octets.specs.Cut.{piece, upTo}
-use Rattle.octets.specs.Told.{refused, answered}
+use Rattle.octets.specs.Told.{Told, answered}
+use Rattle.octets.specs.Tables.{firstOf}
 use Rattle.octets.proofs.Tests.{both-hold}
 use Rattle.octets.proofs.Tables.{other-told}
 use Rattle.fcs.specs.Fcs.{checkOctet, octetStep, bitStep}
@@ -27,7 +28,7 @@ use Rattle.links.specs.Station.{Station, socketPlace, getLink, linkAt}
 use Rattle.links.specs.Operations.{receiving, Receiver}
 use Rattle.links.specs.Demand3.{Message, Call, Ready, cutAt, Premises, Right, First, Demand3}
 use Rattle.links.specs.Demand2.{own, Prepared, CutComes, GivenBack, Back}
-use Rattle.links.specs.Tables.{ReceivingTable}
+use Rattle.links.specs.Tables.{receivingRows, ReceivingTable}
 use Rattle.links.specs.Idle.{RefusesAll, AlwaysRepeats, StoresNothing, ServesFirst, IdlePrograms}
 use Rattle.links.specs.declared.Side.the-variants.{Provisioner}
 use Rattle.links.specs.declared.LinkState.the-variants as S
@@ -56,14 +57,16 @@ abbrev whole : List ℕ
 whole = segmentFrame 0 (short .number) (short .octets) 0
 
 -- the link is ready for it, as for every message under this number
-prepared : (octets : List ℕ) → 1 ≤ length octets → length octets ≤ 1469 → Prepared Provisioner station first (record { number = record { 0 = 0x80 }; octets = octets })
-unfolding good getLink
-prepared octets one few = record {
-  room = refl;
-  notBad = refl;
-  socket = refl;
-  ready = record { isOpen = refl; nothing = refl; awaited = record { notLast = refl }; number = refl; some-octets = one; few-octets = few };
-}
+module _ (octets : List ℕ) (one : 1 ≤ length octets) (few : length octets ≤ 1469) where
+  abbrev numbered : Message
+  numbered = record { number = record { 0 = 0x80 }; octets = octets }
+
+  ready : Ready Provisioner link numbered
+  ready = record { isOpen = refl; nothing = refl; awaited = record { notLast = refl }; number = refl; some-octets = one; few-octets = few }
+
+  prepared : Prepared Provisioner station first numbered
+  unfolding good getLink
+  prepared = record { room = refl; notBad = refl; socket = refl; ready = ready }
 
 -- whose only segment is this frame
 is-whole : List·Memᴰ whole (cutAt (own Provisioner station first short) short)
@@ -103,11 +106,16 @@ octets-all [] e i = omega arith
 octets-all (x ∷ l) e zero = ltb-true x 256 (both-hold {a = ltb x 256} {b = all-octets l} e .0)
 octets-all (x ∷ l) e (suc i) = octets-all l (both-hold {a = ltb x 256} {b = all-octets l} e .1) i
 
+-- the row of a frame's answer, worked out
+by-row : (receive : Receiver) → ReceivingTable receive → (f : List ℕ) → all-octets f ≡ true → (a : Told) → firstOf (receivingRows Provisioner station f) ≡ some a
+    → told (receive Provisioner station f .0) ≡ a
+by-row receive t f o a e =
+    let q : some a ≡ some (told (receive Provisioner station f .0)) = sym e ∙ t Provisioner station f (octets-all f o) .first in
+    cc
+
 is-delivered : (receive : Receiver) → ReceivingTable receive → told (receive Provisioner station whole .0) ≡ answered "delivered" (1 ∷ 0x80 ∷ [])
 unfolding good findFrom getLink segmentFrame segmentOctets headerOf piece checkOctet octetStep bitStep isMarked withMark write
-is-delivered receive t =
-    let e : some (answered "delivered" (1 ∷ 0x80 ∷ [])) ≡ some (told (receive Provisioner station whole .0)) = t Provisioner station whole (octets-all whole refl) .first in
-    cc
+is-delivered receive t = by-row receive t whole refl _ refl
 
 always-repeats : (receive : Receiver) → AlwaysRepeats receive → ReceivingTable receive → ⊥
 always-repeats receive h t =
@@ -126,12 +134,12 @@ brings k = record { socket = first; frame = segment k }
 
 premises : Premises station (λ _. long) Provisioner
 unfolding good
-premises = record { room = refl; notBad = refl; ready = ready }
+premises = record { room = refl; notBad = refl; ready = at }
   where
-    ready : (s : Socket) → isSocket s 1 ≡ true → Ready Provisioner (linkAt (link ∷ []) s) long
-    ready s e =
+    at : (s : Socket) → isSocket s 1 ≡ true → Ready Provisioner (linkAt (link ∷ []) s) long
+    at s e =
         let p : socketPlace s ≡ 0 = omega (arith, place-below s 1 e) in
-        rw p (record { isOpen = refl; nothing = refl; awaited = record { notLast = refl }; number = refl; some-octets = omega arith; few-octets = omega arith })
+        rw p (ready (replicate 44 0) (omega arith) (omega arith))
 
 -- the cut, by its three frames
 right-0 : Right station (λ _. long) (brings 0)
@@ -165,9 +173,7 @@ third-early h = not-among 1 0 2 (omega arith) (omega arith) (h .0 (segment 1) (r
 
 is-kept : (receive : Receiver) → ReceivingTable receive → told (receive Provisioner station (segment 0) .0) ≡ answered "kept" []
 unfolding good findFrom getLink segmentFrame segmentOctets headerOf piece checkOctet octetStep bitStep isMarked withMark
-is-kept receive t =
-    let e : some (answered "kept" []) ≡ some (told (receive Provisioner station (segment 0) .0)) = t Provisioner station (segment 0) (octets-all (segment 0) refl) .first in
-    cc
+is-kept receive t = by-row receive t (segment 0) refl _ refl
 
 first-stays : (receive : Receiver) → ServesFirst receive → told (receive Provisioner station (segment 0) .0) ≡ answered "kept" []
     → receive Provisioner (receive Provisioner station (segment 0) .1) (segment 1) .1 ≡ receive Provisioner station (segment 0) .1

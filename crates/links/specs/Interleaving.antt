@@ -1,4 +1,4 @@
--- Calls in any mixture, and the same calls one after the other by a key (a socket). Nothing here is of PB-ADV alone.
+-- Calls in any mixture, and the same calls one after the other by a key (a socket). Nothing of PB-ADV is used.
 use Prim.Native.Nat.{ℕ, zero, suc}
 use mathlib.Core.Bool.{Bool, true, false}
 use mathlib.Core.List.{List, [], _∷_, _++_}

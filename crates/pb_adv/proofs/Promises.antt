@@ -3,7 +3,7 @@ use Prim.Native.Nat.{ℕ, _+_, _*_, _-_, _/_, _%_, _≤_, _<_, min}
 use native.Mathlib.Omega.{arith}
 use mathlib.Core.Bool.{true, _&&_}
 use mathlib.Core.List.{List, [], _∷_}
-use mathlib.Core.Path.{_≡_, sym, ap, _∙_, subst}
+use mathlib.Core.Path.{_≡_, refl, sym, ap, _∙_, subst}
 use lib.Dec.{leb, eqb}
 use lib.ListN.{length, take, getD}
 use lib.Seq.{take-length, take-all}
@@ -11,8 +11,8 @@ use borrow.Author.Tests.{le-leb, eq-eqb, leb-true, eqb-true}
 use Rattle.octets.specs.Numbers.{Octets, big16, big32}
 use Rattle.octets.proofs.Tests.{cases, both-hold}
 use Rattle.transactions.specs.Segments.{segN}
-use Rattle.pb_adv.specs.Frame.{parsed, byKind, isStart, carried, highBits, segmentFrom, controlOf, frameOctets, segmentOctets}
-use Rattle.pb_adv.specs.Promises.{segmentSaid, Fits, IsEncoding, SegmentsAreEncodings}
+use Rattle.pb_adv.specs.Frame.{parsed, byKind, isStart, carried, highBits, segmentFrom, controlOf, frameOctets, segmentOctets, openOctets, ackOctets, closeOctets}
+use Rattle.pb_adv.specs.Promises.{segmentSaid, Fits, IsEncoding, SegmentsAreEncodings, ControlNumbers}
 use Rattle.transactions.specs.declared.TransactionNumber.{TransactionNumber}
 use Rattle.pb_adv.specs.declared.SegmentHeader.{SegmentHeader}
 use Rattle.pb_adv.specs.declared.SegmentHeader.the-variants.{Start, Continuation}
@@ -142,3 +142,7 @@ said (a ∷ b ∷ c ∷ d ∷ t ∷ x ∷ r) o =
 
 pub segments-are-encodings : SegmentsAreEncodings
 segments-are-encodings f o s e = subst (Said f) e (said f o)
+
+pub control-numbers : ControlNumbers
+unfolding openOctets ackOctets closeOctets
+control-numbers = record { opening = λ id uuid. refl; ack = λ id. refl; close = λ id reason. refl }

@@ -1,11 +1,11 @@
--- What is promised of the reading of frames beyond `parse`'s contract. The proofs are `proofs/Promises.antt`.
+-- What is promised of frames beyond `parse`'s contract. The proofs are `proofs/Promises.antt`.
 use Prim.Native.Nat.{ℕ, _≤_, min}
 use mathlib.Core.List.{List}
 use mathlib.Core.Path.{_≡_}
 use lib.ListN.{length}
 use Rattle.octets.specs.Numbers.{Octets}
 use Rattle.octets.specs.Parts.{part}
-use Rattle.pb_adv.specs.Frame.{parsed, headerLength, segmentOctets}
+use Rattle.pb_adv.specs.Frame.{numberOf, parsed, headerLength, segmentOctets, openOctets, ackOctets, closeOctets}
 use Rattle.transactions.specs.declared.TransactionNumber.{TransactionNumber}
 use Rattle.pb_adv.specs.declared.SegmentHeader.{SegmentHeader}
 use Rattle.pb_adv.specs.declared.SegmentHeader.the-variants.{Start, Continuation}
@@ -30,3 +30,9 @@ pub record IsEncoding (f : List ℕ) (s : Segment) : Type 0 where
 
 abbrev pub SegmentsAreEncodings : Type 0
 SegmentsAreEncodings = (f : List ℕ) → Octets f → (s : Segment) → parsed f ≡ P.Segment s → IsEncoding f s
+
+-- "Number written 0" in an Open, an Ack and a Close
+pub record ControlNumbers : Type 0 where
+  pub opening : (id : ℕ) (uuid : List ℕ) → numberOf (openOctets id uuid) .0 ≡ 0
+  pub ack : (id : ℕ) → numberOf (ackOctets id) .0 ≡ 0
+  pub close : (id reason : ℕ) → numberOf (closeOctets id reason) .0 ≡ 0

@@ -23,7 +23,7 @@ use Rattle.pb_adv.specs.declared.Parsed.{Parsed}
 use Rattle.transactions.proofs.Laws.{segment-begins, segN-small, segment-long}
 use Rattle.pb_adv.proofs.Promises.{id-back, by-kind, parsed-segment, carried-segment}
 use Rattle.pb_adv_writing.specs.Writing.{headerOf, segmentFrame, isSegment, SegmentAsked}
-use Rattle.pb_adv_writing.specs.Promises.{GivesBack, parsedTold, WritersGiveBack, AllFramesSay, ControlNumbers, putSegment, putFrames, CutJoins}
+use Rattle.pb_adv_writing.specs.Promises.{GivesBack, parsedTold, WritersGiveBack, AllFramesSay, putSegment, putFrames, CutJoins}
 use Rattle.pb_adv_writing.proofs.Laws.{segment-asked}
 
 -- ---- writers
@@ -92,10 +92,6 @@ all-frames-say id t m e =
     let asked : (k : ℕ) → k ≤ segN (length m) → SegmentAsked m k =
     λ k h. record { some-octets = leb-true 1 (length m) (b .0); few-octets = leb-true (length m) 1469 (b .1); index = h } in
     record { start = start-says id t m (asked 0 (omega arith)); continuation = λ k h i. continuation-says id t m k h (asked k i) }
-
-pub control-numbers : ControlNumbers
-unfolding openOctets ackOctets closeOctets
-control-numbers = record { opening = λ id uuid. refl; ack = λ id. refl; close = λ id reason. refl }
 
 -- ---- the cut, joined by place
 

@@ -9,7 +9,7 @@ use Rattle.octets.specs.Told.{Told, answered}
 use Rattle.octets.specs.Writing.{told, written, outputAfter}
 use Rattle.fcs.specs.Fcs.{checkOctet}
 use Rattle.transactions.specs.Segments.{isLength, segN, segmentPlace, segmentLength, segment}
-use Rattle.pb_adv.specs.Frame.{numberOf, parsed, carried, indexOf, told as frameTold, acknowledgementOctets, openOctets, ackOctets, closeOctets, isUuid}
+use Rattle.pb_adv.specs.Frame.{parsed, carried, indexOf, told as frameTold, acknowledgementOctets, openOctets, ackOctets, closeOctets, isUuid}
 use Rattle.pb_adv.specs.Promises.{segmentSaid}
 use Rattle.transactions.specs.declared.TransactionNumber.{TransactionNumber}
 use Rattle.pb_adv.specs.declared.Parsed.{Parsed}
@@ -44,12 +44,6 @@ pub record FramesSay (id : ℕ) (t : TransactionNumber) (m : List ℕ) : Type 0 
 
 abbrev pub AllFramesSay : Type 0
 AllFramesSay = (id : ℕ) (t : TransactionNumber) (m : List ℕ) → isLength (length m) ≡ true → FramesSay id t m
-
--- "Number written 0" in an Open, an Ack and a Close
-pub record ControlNumbers : Type 0 where
-  pub opening : (id : ℕ) (uuid : List ℕ) → numberOf (openOctets id uuid) .0 ≡ 0
-  pub ack : (id : ℕ) → numberOf (ackOctets id) .0 ≡ 0
-  pub close : (id reason : ℕ) → numberOf (closeOctets id reason) .0 ≡ 0
 
 -- a list with the octets of a parsed frame written at its segment's place; other frames write nothing
 abbrev pub putSegment : List ℕ → List ℕ → Parsed → List ℕ

@@ -19,17 +19,17 @@ MessageTable = (m : List ℕ) → ByTable (told (messageRead m)) (messageRows m)
 
 -- ---- every accepted message's fields are exactly its octets: none is skipped, none shared, and reserved values come through unchanged
 
--- numbers as octets, by their lengths, 1 or 2
+-- numbers as octets, by their sizes, 1 or 2
 abbrev pub numberOctets : List ℕ → List ℕ → List ℕ
 numberOctets [] values = []
-numberOctets (long ∷ more) [] = []
-numberOctets (long ∷ more) (v ∷ values) = cond (eqb long 2) (octets16 v) (v ∷ []) ++ numberOctets more values
+numberOctets (size ∷ more) [] = []
+numberOctets (size ∷ more) (v ∷ values) = cond (eqb size 2) (octets16 v) (v ∷ []) ++ numberOctets more values
 
 -- the octets of the long fields of the message m, by place and length
 abbrev pub longOctets : List ℕ → List ℕ → List ℕ
 longOctets m [] = []
 longOctets m (place ∷ []) = []
-longOctets m (place ∷ long ∷ more) = part m place long ++ longOctets m more
+longOctets m (place ∷ size ∷ more) = part m place size ++ longOctets m more
 
 abbrev pub Says : List ℕ → String → List ℕ → Type 0
 Says m name values = told (messageRead m) ≡ answered name values
