@@ -90,7 +90,19 @@ pub fn take<'s, 'a>(view: &'s mut View<'a>, wanted: Wanted) -> FieldRead
         × (now (view .exit) .octets ≡ now (view .entry) .octets)
         × (now (view .exit) .place ≡ fieldAt (now (now (view .entry) .octets)) (now (view .entry) .place) wanted .next) ⌝ }
 {
-    let step = read_field(view.octets, view.place, wanted);
-    view.place = step.next;
+    let place = view.place;
+    let step = read_field(view.octets, place, wanted);
+    let next = step.next;
+    view.place = next;
     step.field
+}
+
+// What stands at a place of a message, read through a view that begins there; and the place that the view has reached.
+pub fn take_at(octets: &[u8], place: usize, wanted: Wanted) -> Step
+    ensures { λ r. ⌜ r ≡ fieldAt (now (octets .entry)) place wanted ⌝ }
+{
+    let mut view = View { octets, place };
+    let field = take(&mut view, wanted);
+    let next = view.place;
+    Step { next, field }
 }

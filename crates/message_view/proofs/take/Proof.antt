@@ -12,8 +12,8 @@ use denote.Exit.{yes}
 use denote.Laws.{Is, shows}
 use denote.Memory.{mem, cellAt}
 use denote.Plain.{uint-makes}
-use denote.RattleType.{RattleType, owns}
-use denote.Ref.{RefT, NamedLft, MutRef, now, ptr-vals, mut-tells}
+use denote.RattleType.{owns}
+use denote.Ref.{RefT, MutRef, now, ptr-vals, mut-tells}
 use denote.Signature.{Slot, plain, namedLft}
 use denote.Slice.{sliceVal, ShrSlice}
 use denote.Steps.{opens, closes, only, owned, peeks, heard, nothing}
@@ -45,8 +45,10 @@ use types.Run.{look, init, forget, stop, hop, fld, from, load, of-opd, and-then,
 use types.SemTy.{Body}
 use Rattle.message_view.proofs.FieldRead as F
 use Rattle.message_view.proofs.FieldRead.Laws as F′
+use Rattle.message_view.proofs.Number.{number}
 use Rattle.message_view.proofs.Step as R
 use Rattle.message_view.proofs.Step.Laws as R′
+use Rattle.message_view.proofs.Types.{α, B, vals}
 use Rattle.message_view.proofs.View as T
 use Rattle.message_view.proofs.View.Laws as T′
 use Rattle.message_view.proofs.Wanted as D
@@ -64,22 +66,12 @@ use Rattle.message_view.specs.declared.Step.{Step}
 use Rattle.message_view.specs.declared.View.{View}
 use Rattle.message_view.specs.declared.Wanted.{Wanted}
 
--- 'a, and the struct's type at it
-abbrev α : Lft → NamedLft
-α κ′ = record { mir = named 1; lft = κ′ }
-
-abbrev B : Lft → RattleType
-B κ′ = T.the-row (α κ′)
-
 -- `View<'a>`, as the referent's place in the signature
 abbrev behind : Slot 2
 behind = plain (λ κs. T.the-row (namedLft 2 1 tt κs))
 
 abbrev stayed : Stays (f.ended .signature .params) (f.ended .kept)
 stayed = (stay-ref (0 ∷ []) tt behind, (stay-none (λ _. D.the-row) yes, tt))
-
-abbrev vals : Wanted → List Val
-vals = EL.vals D.the-type D′.the-laws
 
 module _ {M : Type 1} (𝓤 : URA M) (H : Heap 𝓤) (A : Atoms 𝓤) (mem : Memory → SProp 𝓤) (run : Routine → Fun 𝓤) where
   -- the contract that the proof cites
@@ -147,37 +139,38 @@ module _ {M : Type 1} (𝓤 : URA M) (H : Heap 𝓤) (A : Atoms 𝓤) (W : Given
     walk : ent 𝓤 (onEntry 𝓤 H A f.signature (κ, (κ′, tt)) (q, (q′, tt)) x at) (WpFn 𝓤 H C Λ code.function (vptr b o ∷ EL.val D.the-type D′.the-laws w ∷ []) Post)
     walk =
         qed W ((‵ (flft κ q) ⊛ ‵ (flft κ′ q′) ⊛ ‵ ftrue) ∷ ‵ (owns (MutRef (named 0) κ (B κ′) ∷ D.the-row ∷ []) x at) ∷ []) ∵ enter ! C Λ code.function (vptr b o ∷ EL.val D.the-type D′.the-laws w ∷ []) _ $
-        alloc1 ! (λ l₀. alloc1 ! (λ l₁. alloc1 ! (λ l₂. alloc1 ! (λ l₃. alloc1 ! (λ l₄. alloc1 ! (λ l₅. alloc0 ! $ params1 ! $ pass1 ! (init ! 8 refl (tt, tt)) $
-        pass1 ! (init ! 6 refl (EL.lawful D.the-type D′.the-laws 𝓤 H A W tt .typed w _ ok .0)) $ pass0 ! $
-        move ! (13 ∷ []) $ fsplit ! $ fsplit3 ! $ drop ! $ move ! (15 ∷ []) $ split ! $ move ! (2 ∷ 3 ∷ 0 ∷ []) $
+        alloc1 ! (λ l₀. alloc1 ! (λ l₁. alloc1 ! (λ l₂. alloc1 ! (λ l₃. alloc1 ! (λ l₄. alloc1 ! (λ l₅. alloc1 ! (λ l₆. alloc0 ! $ params1 ! $ pass1 ! (init ! 10 refl (tt, tt)) $
+        pass1 ! (init ! 8 refl (EL.lawful D.the-type D′.the-laws 𝓤 H A W tt .typed w _ ok .0)) $ pass0 ! $
+        move ! (15 ∷ []) $ fsplit ! $ fsplit3 ! $ drop ! $ move ! (17 ∷ []) $ split ! $ move ! (2 ∷ 3 ∷ 0 ∷ []) $
         opens ! tt (B κ′) {h = h} b o (λ vs. spelt ! (B κ′) (Is (B κ′)) (shows 𝓤 H A (B κ′)) (LL.vals (T.the-type (α κ′)) (T′.the-laws (α κ′))) (LL.tells (T.the-type (α κ′)) (T′.the-laws (α κ′))) fullShare h vs b o $
         use1 W (‵ (fat fullShare (T′.mir erased) b o (T′.lowered h))) (W .laws .raw-at fullShare (T′.mir erased) b o (T′.lowered h)) $
         move ! (1 ∷ []) $ peeks ! (B κ′) (Is (B κ′)) (shows 𝓤 H A (B κ′)) h (T′.lowered h ∷ []) (λ was. move ! (1 ∷ 0 ∷ []) $
-        -- [the view's cell; what it owns; the open borrow; obs; auth; 'a's token; wanted's; _5; …; _4; …; _3; …; _2; …; _1; …; room for _0; …]
+        -- [the view's cell; what it owns; the open borrow; obs; auth; 'a's token; wanted's; _6; …; _5; …; _4; …; _3; …; _2; …; _1; …; room for _0; …]
         (let fields = LL.owed (T.the-type (α κ′)) (T′.the-laws (α κ′)) h _ was in
-        assigns ! (of-opd ! (load ! (from ! (hop ! (look ! 15 refl) (fld ! refl (stop !)))) (look-in ! 0 (sub ! 0 refl (whole !))))) (from ! (stop !)) (init ! 9 refl (tt, (tt, (record { fits = fields .0 .0 .1 .0 }, tt)))) $
-        assigns ! (of-opd ! (load ! (from ! (hop ! (look ! 15 refl) (fld ! refl (stop !)))) (look-in ! 0 (sub ! 1 refl (whole !))))) (from ! (stop !)) (init ! 7 refl (tt, record { fits = fields .1 .0 .1 })) $
+        assigns ! (of-opd ! (load ! (from ! (hop ! (look ! 17 refl) (fld ! refl (stop !)))) (look-in ! 0 (sub ! 1 refl (whole !))))) (from ! (stop !)) (init ! 13 refl (tt, record { fits = fields .1 .0 .1 })) $
+        assigns ! (of-opd ! (load ! (from ! (hop ! (look ! 17 refl) (fld ! refl (stop !)))) (look-in ! 0 (sub ! 0 refl (whole !))))) (from ! (stop !)) (init ! 7 refl (tt, (tt, (record { fits = fields .0 .0 .1 .0 }, tt)))) $
         move ! (1 ∷ []) $ use1 W (‵ (B κ′ .own h (T′.lowered h ∷ [])) ⊛ ‵ (B κ′ .own h (T′.lowered h ∷ []))) (LL.copy (T.the-type (α κ′)) (T′.the-copy (α κ′)) 𝓤 H A W .twice h (T′.lowered h ∷ [])) $ split ! $
         use1 W (given (T′.lowered h ∷ [] ≡ T′.lowered h ∷ []) (‵ (all-own (T.the-type (α κ′) .parts) (T′.the-laws (α κ′)) (h .octets, (h .place, tt))))) (own-open 𝓤 H A W (T.the-type (α κ′)) (T′.the-laws (α κ′)) (h .octets, (h .place, tt)) (T′.lowered h)) $ learn ! (λ _. fsplit ! $
-        -- [what octets owns; what place owns; what the view owns; its cell; the open borrow; obs; auth; 'a's token; wanted's; _5; …]
+        -- [what octets owns; what place owns; what the view owns; its cell; the open borrow; obs; auth; 'a's token; wanted's; _6; …]
         move ! (7 ∷ 0 ∷ []) $ use2 W (raw (ReadField 𝓤 H A at-mem run .pre to)) (asked (fields .1 .0 .1)) $
-        calls-at ! fm (ReadField 𝓤 H A at-mem run) known to (and-then ! (load ! (from ! (stop !)) (look ! 10 refl)) (and-then ! (load ! (from ! (stop !)) (look ! 8 refl)) (and-then ! (load ! (from ! (stop !)) (look ! 14 refl)) (no-more !)))) (λ u.
+        calls-at ! fm (ReadField 𝓤 H A at-mem run) known to (and-then ! (load ! (from ! (stop !)) (look ! 8 refl)) (and-then ! (number ! ((3, 14, h .place) ∷ []) (h .place) (refl, refl, tt) refl) (and-then ! (load ! (from ! (stop !)) (look ! 16 refl)) (no-more !)))) (λ u.
         use1 W (later (some (λ (r : Step). ((‵ (flft κ′ q′) ⊛ ‵ ftrue) ⊛ ‵ (R.the-row .own r (u ∷ []))) ⊛ raw (ensured 𝓤 H A g.ended (g.clauses 𝓤 H A at-mem run) (κ′, tt) (h .octets, (h .place, (w, tt))) tt r)))) (id⊢ 𝓤 _) $ await ! tt $ pick ! (λ r.
         split ! $ move ! (1 ∷ []) $ use1 W (raw (fact 𝓤 (r ≡ found))) (said r) $ heard ! (r ≡ found) (λ e. split ! $ move ! (1 ∷ []) $
         peeks ! R.the-row (Is R.the-row) (shows 𝓤 H A R.the-row) r (u ∷ []) (λ is₀.
         land ! (from ! (stop !)) (init ! 13 refl (LL.lawful R.the-type R′.the-laws 𝓤 H A W .typed r _ is₀ .0)) $ drop ! $
         (let is = subst (Is R.the-row r) (LL.tells R.the-type R′.the-laws r _ is₀) is₀ in
-        rewrite ! 12 (λ (v : Val). ‵ (fat fullShare R′.mir l₃ 0 v)) (ap only (LL.tells R.the-type R′.the-laws r _ is₀)) refl $
-        -- ['a's token; what place owned; what the view owns; its cell; the open borrow; obs; auth; wanted's; _5; …; _4; …; _3; …; _2; …; _1; …; room for _0; …]
-        assigns ! (of-opd ! (load ! (from ! (fld ! refl (stop !))) (look-in ! 12 (sub ! 0 refl (whole !))))) (from ! (hop ! (look ! 16 refl) (fld ! refl (stop !)))) (store-in ! 3 (sub ! 1 refl (whole !)) (tt, record { fits = next-fits r e is })) $
-        assigns ! (of-opd ! (load ! (from ! (fld ! refl (stop !))) (look-in ! 12 (sub ! 1 refl (whole !))))) (from ! (stop !)) (init ! 18 refl (EL.lawful F.the-type F′.the-laws 𝓤 H A W tt .typed (r .field) _ (field-is r e is) .0)) $
+        rewrite ! 12 (λ (v : Val). ‵ (fat fullShare R′.mir l₄ 0 v)) (ap only (LL.tells R.the-type R′.the-laws r _ is₀)) refl $
+        -- ['a's token; what place owned; what the view owns; its cell; the open borrow; obs; auth; wanted's; _6; …; _5; …; _4; …; _3; …; _2; …; _1; …; room for _0; …]
+        assigns ! (of-opd ! (load ! (from ! (fld ! refl (stop !))) (look-in ! 12 (sub ! 0 refl (whole !))))) (from ! (stop !)) (init ! 10 refl (tt, record { fits = next-fits r e is })) $
+        assigns ! (of-opd ! (number ! ((3, 14, h .place) ∷ (5, 10, r .next) ∷ []) (r .next) (refl, refl, tt) refl)) (from ! (hop ! (look ! 18 refl) (fld ! refl (stop !)))) (store-in ! 3 (sub ! 1 refl (whole !)) (tt, record { fits = next-fits r e is })) $
+        assigns ! (of-opd ! (load ! (from ! (fld ! refl (stop !))) (look-in ! 12 (sub ! 1 refl (whole !))))) (from ! (stop !)) (init ! 20 refl (EL.lawful F.the-type F′.the-laws 𝓤 H A W tt .typed (r .field) _ (field-is r e is) .0)) $
         move ! (2 ∷ []) $ use1 W (‵ (B κ′ .own (h′ r e is) (T′.lowered (h′ r e is) ∷ []))) (again r e is) $
         move ! (3 ∷ []) $ use1 W (‵ (cellAt fullShare (B κ′ .mir) (T′.lowered (h′ r e is) ∷ []) b o)) (W .laws .at-raw fullShare (T′.mir erased) b o (T′.lowered (h′ r e is))) $
         move ! (0 ∷ 1 ∷ 4 ∷ 5 ∷ 6 ∷ []) $ closes ! tt (B κ′) (h′ r e is) (T′.lowered (h′ r e is) ∷ []) b o $
-        -- [obs; the borrow; the token; 'a's; what place owned; wanted's; _5; …]
-        returns ! (look ! 16 refl) $ forget ! 6 refl $ forget ! 8 refl $ forget ! 10 refl $ forget ! 12 refl $ forget ! 14 refl $ forget ! 16 refl $
-        move ! (16 ∷ 17 ∷ []) $ free1 ! $ move ! (14 ∷ 15 ∷ []) $ free1 ! $ move ! (12 ∷ 13 ∷ []) $ free1 ! $ move ! (10 ∷ 11 ∷ []) $ free1 ! $ move ! (8 ∷ 9 ∷ []) $ free1 ! $ move ! (6 ∷ 7 ∷ []) $ free1 ! $ free0 ! $
-        keep ! (0 ∷ 1 ∷ 2 ∷ 3 ∷ []) $ by ! (exits r e is))))))))))))))))
+        -- [obs; the borrow; the token; 'a's; what place owned; wanted's; _6; …]
+        returns ! (look ! 18 refl) $ forget ! 6 refl $ forget ! 8 refl $ forget ! 10 refl $ forget ! 12 refl $ forget ! 14 refl $ forget ! 16 refl $ forget ! 18 refl $
+        move ! (18 ∷ 19 ∷ []) $ free1 ! $ move ! (16 ∷ 17 ∷ []) $ free1 ! $ move ! (14 ∷ 15 ∷ []) $ free1 ! $ move ! (12 ∷ 13 ∷ []) $ free1 ! $ move ! (10 ∷ 11 ∷ []) $ free1 ! $ move ! (8 ∷ 9 ∷ []) $ free1 ! $ move ! (6 ∷ 7 ∷ []) $ free1 ! $ free0 ! $
+        keep ! (0 ∷ 1 ∷ 2 ∷ 3 ∷ []) $ by ! (exits r e is)))))))))))))))))
 
 module _ {M : Type 1} (𝓤 : URA M) (H : Heap 𝓤) (A : Atoms 𝓤) (W : Given 𝓤 H A) (mem : Memory → SProp 𝓤) (run : Routine → Fun 𝓤) where
   take-walks : (C : Calls 𝓤 H) (Λ : Loops 𝓤 H) → FmC 𝓤 H (W .laws) C → Triple 𝓤 (C #read-field) (ReadField 𝓤 H A mem run) → Walks 𝓤 H A f.ended stayed (WpFn 𝓤 H C Λ code.function) (f.clauses 𝓤 H A mem run)
