@@ -20,16 +20,24 @@ fn octet_step(remainder: u8, octet: u8) -> u8
     x
 }
 
-fn remainder_of(message: &[u8]) -> u8
-    ensures { λ r. ⌜ r ≡ remainder 0xFF (now (message .entry)) ⌝ }
+// The remainder after octets more.
+fn remainder_after(start: u8, octets: &[u8]) -> u8
+    ensures { λ r. ⌜ r ≡ remainder start (now (octets .entry)) ⌝ }
 {
-    let mut r: u8 = 0xFF;
+    let mut r = start;
     let mut i = 0;
-    while i < message.len() {
-        r = octet_step(r, message[i]);
+    while i < octets.len() {
+        r = octet_step(r, octets[i]);
         i += 1;
     }
     r
+}
+
+// The remainder of a message, and of nothing else.
+fn remainder_of(message: &[u8]) -> u8
+    ensures { λ r. ⌜ r ≡ remainder 0xFF (now (message .entry)) ⌝ }
+{
+    remainder_after(0xFF, message)
 }
 
 // The check octet of a message, of any length.

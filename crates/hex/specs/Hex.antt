@@ -5,6 +5,7 @@ use mathlib.Core.List.{List, [], _∷_}
 use lib.Dec.{leb, eqb}
 use lib.ListN.{length}
 use Rattle.octets.specs.Parts.{write, within}
+use Rattle.octets.specs.Told.{Told, refused, answered}
 use Rattle.hex.specs.declared.Decoded.{Decoded}
 use Rattle.hex.specs.declared.Decoded.the-variants.{Octets, NotHexadecimal, TooLong}
 
@@ -39,6 +40,12 @@ digitOf v = cond (leb v 9) (48 + v) (55 + v)
 abbrev pub textOf : List ℕ → List ℕ
 textOf [] = []
 textOf (x ∷ l) = digitOf (x / 16) ∷ digitOf (x % 16) ∷ textOf l
+
+-- document 01's number and values of an answer
+abbrev pub told : Decoded → Told
+told (Octets n) = answered "octets" (n ∷ [])
+told NotHexadecimal = refused 11
+told TooLong = refused 11
 
 -- the answer to a reading of a text into an output
 unfoldable pub decodedOf : List ℕ → List ℕ → Decoded

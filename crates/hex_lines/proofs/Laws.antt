@@ -1,7 +1,6 @@
--- The length of a line's text, what the reading of a line tells, and three promises: MOST octets are enough, a refusal leaves the output as it was,
--- and the front of a long line does what the line does.
+-- The length of a line's text, and what the reading of a line tells.
 use Prim.Native.Nat.{ℕ, zero, suc, _+_, _*_, _/_, _%_, _≤_, _<_, min}
-use native.Mathlib.Nat.{zero-add, sub-zero}
+use native.Mathlib.Nat.{zero-add}
 use native.Mathlib.Numerals.{add-one}
 use native.Mathlib.Omega.{arith}
 use mathlib.Core.Bool.{true, false}
@@ -9,11 +8,9 @@ use mathlib.Core.List.{List, [], _∷_, _++_, map-map}
 use mathlib.Core.Path.{_≡_, refl, sym, ap, _∙_}
 use lib.Dec.{leb, eqb}
 use lib.ListN.{length, take, set, replicate, length-append}
-use lib.Seq.{length-take-le, take-all}
 use borrow.Author.Tests.{leb-true, leb-false, eqb-true, le-leb, lt-leb}
-use Rattle.octets.specs.Parts.{write, copyFits, copied}
+use Rattle.octets.specs.Parts.{write}
 use Rattle.octets.specs.Cut.{upTo, joined}
-use Rattle.octets.specs.Told.{refused}
 use Rattle.octets.specs.Writing.{told as writerTold, written, outputAfter}
 use Rattle.octets.specs.declared.Written.the-variants.{Count, WrongArgument}
 use Rattle.octets.proofs.Parts.{write-octet, write-next, write-front}
@@ -26,22 +23,10 @@ use Rattle.hex.proofs.Laws.{length-text, length-octets, encoded-fits}
 use Rattle.transactions.specs.Segments.{segN, segmentPlace}
 use Rattle.pb_adv_writing.specs.Writing.{segmentFrame, headerOf, isSegment, SegmentAsked}
 use Rattle.transactions.specs.declared.TransactionNumber.{TransactionNumber}
-use Rattle.transactions.proofs.Laws.{segN-small, segN-enough, segment-begins}
+use Rattle.transactions.proofs.Laws.{segN-enough, segment-begins}
 use Rattle.pb_adv_writing.proofs.Laws.{frame-long}
-use Rattle.hex_lines.specs.Lines.{isMessage, frameLine, messageText, refusedText, lineText, lineNext, told, textWritten, textOutput, lineWritten, lineOutput}
+use Rattle.hex_lines.specs.Lines.{isMessage, frameLine, messageText}
 use Rattle.hex_lines.specs.Steps.{segmentLine, firstLines}
-use Rattle.hex_lines.specs.declared.LineWritten.the-variants.{Text, OutputTooShort}
-
--- ---- a text that fits, and one that doesn't
-
-module _ (text output : List ℕ) (next : TransactionNumber) where
-  pub text-fits : length text ≤ length output → (Text (length text) next ≡ textWritten text next output) × (write output 0 text ≡ textOutput text output)
-  unfolding textWritten textOutput
-  text-fits h = rw (le-leb (length text) (length output) h) (refl, refl)
-
-  pub text-short : length output < length text → (OutputTooShort ≡ textWritten text next output) × (output ≡ textOutput text output)
-  unfolding textWritten textOutput
-  text-short h = rw (lt-leb (length text) (length output) h) (refl, refl)
 
 -- ---- a line at its place
 
@@ -129,16 +114,6 @@ module _ (t : TransactionNumber) {m : List ℕ} {k : ℕ} (asked : SegmentAsked 
   pub frame-front : take (length (segmentFrame 1 t m k)) (outputAfter (isSegment m k) (segmentFrame 1 t m k) frameRoom) ≡ segmentFrame 1 t m k
   frame-front = wrote (isSegment m k) (segmentFrame 1 t m k) frameRoom (length (segmentFrame 1 t m k)) (ap writerTold frame-written) .1
 
--- ---- a line that is refused
-
-module _ (output : List ℕ) where
-  pub refused-fits : copyFits output 0 refusedText 0 4 ≡ leb 4 (length output)
-  refused-fits = rw (sub-zero, le-leb 0 (length output) (omega arith)) (cases (leb 4 (length output)) (λ e. rw e) (λ e. rw e))
-
-  pub refused-copied : copied output 0 refusedText 0 4 ≡ textOutput refusedText output
-  unfolding copied textOutput
-  refused-copied = rw refused-fits
-
 -- ---- what a reading into 1,469 octets tells
 
 abbrev messageRoom : List ℕ
@@ -189,53 +164,3 @@ module _ (line : List ℕ) where
         let r = read-octets in
         rw (r .0, le-leb (length line / 2) 1469 (omega arith), read-count .0)
         (rw zero-add at (write-front messageRoom 0 (octetsOf line) (omega (arith, read-count))))
-
--- ---- the promises
-
--- how many octets a message has
-message-length : (line : List ℕ) → isMessage line ≡ true → (1 ≤ length line / 2) × (length line / 2 ≤ 1469)
-message-length line e =
-    let a = both-hold {a = isHexadecimal line} e in
-    let b = both-hold {a = leb 2 (length line)} (a .1) in
-    (omega (arith, leb-true 2 (length line) (b .0)), omega (arith, leb-true (length line) 2938 (b .1)))
-
--- the const MOST of src/lib.rt
-pub enough : (t : TransactionNumber) (line : List ℕ) → length (lineText t line) ≤ 3776
-unfolding lineText
-enough t line =
-    cases (isMessage line)
-    (λ e. rw e
-    (let b = message-length line e in
-    let m = octetsOf line in
-    let n = length-octets line in
-    omega (arith, text-long t m (omega arith), segN-small (length m) (omega arith))))
-    (λ e. rw e (omega arith))
-
-pub refusal-keeps : (t : TransactionNumber) (line output : List ℕ) (n : ℕ) → told (lineWritten t line output) ≡ refused n → lineOutput t line output ≡ output
-unfolding textWritten textOutput
-refusal-keeps t line output n =
-    cases (leb (length (lineText t line)) (length output))
-    (λ e. rw e (λ q. let z : _≡_ {A = ℕ} 0 1 = cc in absurd (omega arith))) (λ e. rw e (λ q. refl))
-
--- a line longer than any message is none
-long-none : (line : List ℕ) → 2938 < length line → isMessage line ≡ false
-long-none line h =
-    cases (isHexadecimal line) (λ e. rw (e, le-leb 2 (length line) (omega arith), lt-leb (length line) 2938 h)) (λ e. rw e)
-
--- so the first 2,939 characters of a line, which is all that the program holds, do what the line does
-pub front-does-the-same : (t : TransactionNumber) (line : List ℕ)
-    → (lineText t (take 2939 line) ≡ lineText t line) × (lineNext t (take 2939 line) ≡ lineNext t line)
-unfolding lineText lineNext
-front-does-the-same t line =
-    cases (leb (length line) 2939)
-    (λ e. rw (take-all 2939 line (leb-true (length line) 2939 e)) (refl, refl))
-    (λ e. let long = leb-false (length line) 2939 e in
-    rw (long-none line (omega arith), long-none (take 2939 line) (omega (arith, length-take-le 2939 line (omega arith)))) (refl, refl))
-
--- a text that was written is within the output
-pub text-within : (t : TransactionNumber) (line output : List ℕ) (n : ℕ) (next : TransactionNumber) → lineWritten t line output ≡ Text n next → n ≤ length output
-unfolding textWritten
-text-within t line output n next =
-    cases (leb (length (lineText t line)) (length output))
-    (λ e. rw e (λ q. let k : length (lineText t line) ≡ n = cc in rw (← k) (leb-true (length (lineText t line)) (length output) e)))
-    (λ e. rw e (λ q. let z : _≡_ {A = ℕ} 0 1 = cc in absurd (omega arith)))

@@ -1,12 +1,14 @@
 -- One line of "Lines in, lines out": a message in hexadecimal in, its cut out, one frame a line.
 use Prim.Native.Nat.{ℕ}
-use mathlib.Core.Bool.{Bool, _&&_, cond}
+use mathlib.Core.Bool.{Bool, true, _&&_, cond}
 use mathlib.Core.List.{List, [], _∷_, _++_, map}
 use lib.Dec.{leb}
 use lib.ListN.{length}
-use Rattle.octets.specs.Parts.{write}
 use Rattle.octets.specs.Cut.{joined}
 use Rattle.octets.specs.Told.{Told, refused, answered}
+use Rattle.octets.specs.Writing.{written, outputAfter}
+use Rattle.octets.specs.declared.Written.{Written}
+use Rattle.octets.specs.declared.Written.the-variants.{Count, WrongArgument}
 use Rattle.hex.specs.Hex.{isHexadecimal, octetsOf, textOf}
 use Rattle.transactions.specs.Numbers.{numberAfter}
 use Rattle.pb_adv_writing.specs.Writing.{messageFrames}
@@ -43,17 +45,14 @@ abbrev pub told : LineWritten → Told
 told (Text n t) = answered "text" (n ∷ t .0 ∷ [])
 told OutputTooShort = refused 11
 
--- the answer to a line by its text and the next number: the text's length and that number, or refusal 11 where the output is shorter
-unfoldable pub textWritten : List ℕ → TransactionNumber → List ℕ → LineWritten
-textWritten text next output = cond (leb (length text) (length output)) (Text (length text) next) OutputTooShort
-
--- the output after it: the text at its start and nothing after it changed, or as it was
-unfoldable pub textOutput : List ℕ → List ℕ → List ℕ
-textOutput text output = cond (leb (length text) (length output)) (write output 0 text) output
+-- what the writer of a text answered, with the next number
+abbrev pub withNext : Written → TransactionNumber → LineWritten
+withNext (Count n) next = Text n next
+withNext WrongArgument next = OutputTooShort
 
 -- ONE LINE: its answer and the output after it
 abbrev pub lineWritten : TransactionNumber → List ℕ → List ℕ → LineWritten
-lineWritten t line output = textWritten (lineText t line) (lineNext t line) output
+lineWritten t line output = withNext (written true (lineText t line) output) (lineNext t line)
 
 abbrev pub lineOutput : TransactionNumber → List ℕ → List ℕ → List ℕ
-lineOutput t line output = textOutput (lineText t line) output
+lineOutput t line output = outputAfter true (lineText t line) output

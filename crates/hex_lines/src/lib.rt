@@ -2,12 +2,14 @@
 use hex::Decoded;
 use octets::Written;
 use transactions::TransactionNumber;
+ghost use mathlib.Core.Bool.{true};
 ghost use mathlib.Core.Path.{_≡_};
 ghost use Prim.Native.Nat.{_+_, _≤_};
 ghost use lib.ListN.{length};
 ghost use Rattle.octets.specs.Parts.{write};
+ghost use Rattle.octets.specs.Writing.{written, outputAfter};
 ghost use Rattle.transactions.specs.Numbers.{numberAfter};
-ghost use Rattle.hex_lines.specs.Lines.{messageText, refusedText, textWritten, textOutput, lineWritten, lineOutput};
+ghost use Rattle.hex_lines.specs.Lines.{messageText, refusedText, withNext, lineWritten, lineOutput};
 ghost use Rattle.hex_lines.specs.Steps.{segmentLine, LineAsked};
 
 // The answer to a line.
@@ -50,8 +52,8 @@ fn put_line(
 
 fn put_message(number: TransactionNumber, message: &[u8], output: &mut [u8]) -> LineWritten
     requires { ⌜ (1 ≤ length (now message)) × (length (now message) ≤ 1469) ⌝ }
-    ensures { λ r. ⌜ (r ≡ textWritten (messageText number (now (message .entry))) (numberAfter number) (now (output .entry)))
-        × (now (output .exit) ≡ textOutput (messageText number (now (message .entry))) (now (output .entry))) ⌝ }
+    ensures { λ r. ⌜ (r ≡ withNext (written true (messageText number (now (message .entry))) (now (output .entry))) (numberAfter number))
+        × (now (output .exit) ≡ outputAfter true (messageText number (now (message .entry))) (now (output .entry))) ⌝ }
 {
     let last = transactions::last_segment(message.len() as u16) as usize;
     // The first frame has 9 octets before its segment, each other one 6.
@@ -72,8 +74,8 @@ fn put_message(number: TransactionNumber, message: &[u8], output: &mut [u8]) -> 
 }
 
 fn put_refused(number: TransactionNumber, output: &mut [u8]) -> LineWritten
-    ensures { λ r. ⌜ (r ≡ textWritten refusedText number (now (output .entry)))
-        × (now (output .exit) ≡ textOutput refusedText (now (output .entry))) ⌝ }
+    ensures { λ r. ⌜ (r ≡ withNext (written true refusedText (now (output .entry))) number)
+        × (now (output .exit) ≡ outputAfter true refusedText (now (output .entry))) ⌝ }
 {
     if octet_parts::copy(output, 0, b"!11\n", 0, 4) {
         LineWritten::Text {
@@ -91,7 +93,7 @@ pub fn write_line(number: TransactionNumber, line: &[u8], output: &mut [u8]) -> 
         × (now (output .exit) ≡ lineOutput number (now (line .entry)) (now (output .entry))) ⌝ }
 {
     // The longest message, so that the reader refuses a longer one.
-    let mut message = [0u8; 1469];
+    let mut message = [0u8; octets::LONGEST_MESSAGE];
     let Decoded::Octets(n) = hex::decode(line, &mut message) else {
         return put_refused(number, output);
     };

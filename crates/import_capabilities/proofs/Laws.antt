@@ -1,6 +1,7 @@
 -- A text behind what waits, and what a turn leaves of the line.
 use Prim.Native.Nat.{ℕ, zero, suc, _+_, _-_, _≤_}
 use native.Mathlib.Omega.{arith}
+use mathlib.Core.Bool.{true}
 use mathlib.Core.List.{List}
 use mathlib.Core.Path.{_≡_, refl, sym, _∙_}
 use lib.ListN.{length, drop, length-append, length-drop}
@@ -12,7 +13,7 @@ use Rattle.octets.proofs.Parts.{write-start}
 use Rattle.lines.specs.Streams.{TextWaits, isWhole}
 use Rattle.lines.specs.declared.Streams.{Streams}
 use Rattle.lines.proofs.Laws.{behind, behind-long}
-use Rattle.line_fields.specs.Lines.{textWritten, textOutput}
+use Rattle.octets.specs.Writing.{written, outputAfter as textAfter}
 use Rattle.import_tray.specs.Awaited.{missingText}
 use Rattle.import_tray.specs.declared.Tray.{Tray}
 use Rattle.import_frames.specs.Frames.{Step}
@@ -34,7 +35,7 @@ module _ (output : List ℕ) (at : ℕ) (fits : at + 231 ≤ length output) wher
   room : 231 ≤ length (behind output at)
   room = omega (arith, behind-long output at (omega arith))
 
-  pub text-put : (text : List ℕ) → length text ≤ 231 → (textWritten text (behind output at) ≡ Count (length text)) × (textOutput text (behind output at) ≡ write (behind output at) 0 text)
+  pub text-put : (text : List ℕ) → length text ≤ 231 → (written true text (behind output at) ≡ Count (length text)) × (textAfter true text (behind output at) ≡ write (behind output at) 0 text)
   text-put text short = text-fits text (behind output at) short room
 
   pub step-done : (tray : Tray) (x : Step) (area next : List ℕ)

@@ -26,7 +26,6 @@ use Rattle.links.specs.declared.Side.the-variants.{Provisioner}
 use Rattle.links.specs.declared.Link.{Link}
 use Rattle.link_records.specs.declared.Received.{Received}
 use Rattle.local_calls.specs.Calls.{calledOf}
-use Rattle.line_fields.specs.Lines.{textWritten, textOutput}
 use Rattle.octets.specs.Writing.{written, outputAfter as textAfter}
 use Rattle.octets.specs.declared.Written.the-variants.{Count}
 use Rattle.import_tray.specs.Awaited.{trayOf}
@@ -41,7 +40,7 @@ use Rattle.import_lines.specs.declared.Opening.the-variants as O
 -- ---- a text that fits
 
 pub text-fits : (text output : List ℕ) → length text ≤ 231 → 231 ≤ length output
-    → (textWritten text output ≡ Count (length text)) × (textOutput text output ≡ write output 0 text)
+    → (written true text output ≡ Count (length text)) × (textAfter true text output ≡ write output 0 text)
 unfolding written textAfter
 text-fits text output h room = rw (le-leb (length text) (length output) (omega arith)) (refl, refl)
 

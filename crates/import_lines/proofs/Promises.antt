@@ -6,6 +6,7 @@ use mathlib.Core.List.{List, [], _∷_, _++_}
 use mathlib.Core.Path.{_≡_, refl, sym, ap, _∙_}
 use lib.ListN.{length, getD, take, drop}
 use lib.Seq.{take-take}
+use Rattle.transactions.specs.Numbers.{socketPlace}
 use Rattle.octets.specs.Parts.{part}
 use Rattle.octets.proofs.Tests.{cases}
 use Rattle.hex.proofs.Laws.{length-octets}
@@ -15,7 +16,7 @@ use Rattle.transactions.specs.declared.Socket.{Socket}
 use Rattle.pb_adv.proofs.Promises.{id-back}
 use Rattle.pb_adv_writing.specs.Writing.{headerOf, segmentFrame}
 use Rattle.links.specs.Links.{find}
-use Rattle.links.specs.Station.{Station, socketPlace, getLink, received}
+use Rattle.links.specs.Station.{Station, getLink, received}
 use Rattle.links.specs.Demand3.{Message, Call, Right, linkOf, called, after}
 use Rattle.links.specs.declared.Side.the-variants.{Provisioner}
 use Rattle.links.specs.declared.Found.the-variants.{At}

@@ -1,6 +1,6 @@
 -- What the calls of the import step hand back: the step, with its text at the start of the output, or refusal 11 and nothing changed.
 use Prim.Native.Nat.{ℕ, _/_, _≤_}
-use mathlib.Core.Bool.{Bool, cond}
+use mathlib.Core.Bool.{Bool, true, cond}
 use mathlib.Core.List.{List, []}
 use mathlib.Core.Path.{_≡_}
 use lib.Dec.{leb}
@@ -9,7 +9,7 @@ use Rattle.octets.specs.Parts.{write}
 use Rattle.octets.specs.declared.Written.{Written}
 use Rattle.octets.specs.declared.Written.the-variants.{Count, WrongArgument}
 use Rattle.hex.specs.Hex.{octetsOf}
-use Rattle.line_fields.specs.Lines.{textWritten, textOutput}
+use Rattle.octets.specs.Writing.{written, outputAfter as textAfter}
 use Rattle.import_tray.specs.declared.Tray.{Tray}
 use Rattle.import_frames.specs.Frames.{Step, stepTo, refusedStep}
 use Rattle.import_lines.specs.Lines.{isFrame, isOpening, isComment, socketIn, idIn}
@@ -56,7 +56,7 @@ heldFrame line room = cond (isFrame line) (cond (leb (length line / 2) (length r
 
 -- a text at the start of an output, which has no more characters than any line
 abbrev pub TextPut : List ℕ → List ℕ → Written → List ℕ → Type 0
-TextPut text output r after = (r ≡ textWritten text output) × (after ≡ textOutput text output) × (length text ≤ 231)
+TextPut text output r after = (r ≡ written true text output) × (after ≡ textAfter true text output) × (length text ≤ 231)
 
 -- and whether a record came
 abbrev pub Tells : Bool → List ℕ → List ℕ → Told → List ℕ → Type 0

@@ -3,12 +3,13 @@ use links::Link;
 use octets::Written;
 use transactions::Socket;
 ghost use mathlib.Core.Bool.{false};
+ghost use mathlib.Core.Bool.{true};
 ghost use mathlib.Core.Path.{_≡_};
 ghost use Prim.Native.Nat.{_≤_};
 ghost use lib.ListN.{length, replicate};
 ghost use Rattle.links.specs.Links.{blank};
 ghost use Rattle.links.specs.declared.Side.the-variants.{Provisioner};
-ghost use Rattle.line_fields.specs.Lines.{textWritten, textOutput};
+ghost use Rattle.octets.specs.Writing.{written, outputAfter};
 ghost use Rattle.import_tray.specs.Awaited.{trayOf, isMissing, missingText};
 
 // The link records of a tray, and for each socket whether it was opened and has had no record line since.
@@ -40,8 +41,8 @@ fn is_missing(tray: Tray, socket: Socket) -> bool
 
 // The line of a socket that was opened and has had no record line since; no text for any other. After the last line of input.
 pub fn missing_line(tray: Tray, socket: Socket, output: &mut [u8]) -> Written
-    ensures { λ r. ⌜ (r ≡ textWritten (missingText tray socket) (now (output .entry)))
-        × (now (output .exit) ≡ textOutput (missingText tray socket) (now (output .entry)))
+    ensures { λ r. ⌜ (r ≡ written true (missingText tray socket) (now (output .entry)))
+        × (now (output .exit) ≡ outputAfter true (missingText tray socket) (now (output .entry)))
         × (length (missingText tray socket) ≤ 231) ⌝ }
 {
     if is_missing(tray, socket) {

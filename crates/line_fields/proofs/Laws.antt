@@ -1,4 +1,4 @@
--- Laws of the lines: a text that is copied whole, decimal digits, and a line field by field.
+-- Laws of the lines: a text at the start of a room, decimal digits, and a line field by field.
 use Prim.Native.Nat.{ℕ, zero, suc, _+_, _*_, _-_, _/_, _%_, _^_, _≤_, _<_, min}
 use native.Mathlib.Nat.{zero-add, sub-zero, pow-zero, pow-succ', one-le-pow}
 use native.Mathlib.Numerals.{add-one}
@@ -17,21 +17,9 @@ use Rattle.hex.specs.Hex.{textOf, encodedOutput}
 use Rattle.hex.proofs.Laws.{length-text}
 use Rattle.io.specs.Digits.{glyph, digits, Fewest}
 use Rattle.octets.specs.Writing.{outputAfter}
-use Rattle.line_fields.specs.Lines.{digitsUpTo, decimalOf, hexadecimalOf, fieldText, endBefore, lineOf, textOutput, Holds}
+use Rattle.line_fields.specs.Lines.{digitsUpTo, decimalOf, hexadecimalOf, fieldText, endBefore, lineOf, Holds}
 use Rattle.line_fields.specs.declared.Characters.{Characters}
 use Rattle.line_fields.specs.declared.Field.{Field}
-
--- ---- a text copied whole
-
-module _ (text output : List ℕ) where
-  pub text-fits : copyFits output 0 text 0 (length text) ≡ leb (length text) (length output)
-  text-fits =
-      rw (sub-zero (length output), sub-zero (length text), le-leb 0 (length output) (omega arith), le-leb 0 (length text) (omega arith), le-leb (length text) (length text) (omega arith))
-      (cases (leb (length text) (length output)) (λ e. rw e) (λ e. rw e))
-
-  pub text-copied : copied output 0 text 0 (length text) ≡ textOutput text output
-  unfolding copied outputAfter
-  text-copied = rw (text-fits, take-length text)
 
 -- a text written at the start of a room
 pub written-front : (room d : List ℕ) (n : ℕ) → n ≡ length d → length d ≤ length room → take n (write room 0 d) ≡ d

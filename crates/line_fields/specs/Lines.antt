@@ -2,7 +2,7 @@
 use Prim.Native.Char.{code}
 use Prim.Native.Nat.{ℕ, zero, suc, _+_, _*_, _/_, _%_, _≤_}
 use Prim.Native.String.{String, charAt, len}
-use mathlib.Core.Bool.{true, cond}
+use mathlib.Core.Bool.{cond}
 use mathlib.Core.List.{List, [], _∷_, _++_}
 use mathlib.Core.Path.{_≡_}
 use lib.Dec.{eqb}
@@ -10,8 +10,6 @@ use lib.ListN.{length, take}
 use Rattle.octets.specs.Numbers.{octets16, octets32}
 use Rattle.octets.specs.Parts.{part}
 use Rattle.octets.specs.Told.{Told, refused, answered}
-use Rattle.octets.specs.Writing.{written, outputAfter}
-use Rattle.octets.specs.declared.Written.{Written}
 use Rattle.hex.specs.Hex.{textOf}
 use Rattle.provisioning.specs.Message.{told as messageTold}
 use Rattle.provisioning.specs.declared.Message.{Message}
@@ -76,14 +74,6 @@ endBefore (f ∷ fs) = 44
 unfoldable pub lineOf : List Field → List ℕ
 lineOf [] = []
 lineOf (f ∷ fs) = fieldText f ++ (endBefore fs ∷ lineOf fs)
-
--- ---- a text at the start of an output, or refusal 11: as every writer
-
-abbrev pub textWritten : List ℕ → List ℕ → Written
-textWritten text output = written true text output
-
-abbrev pub textOutput : List ℕ → List ℕ → List ℕ
-textOutput text output = outputAfter true text output
 
 -- ---- a field in a line
 

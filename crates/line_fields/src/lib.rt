@@ -1,7 +1,7 @@
 // A line of text: fields with a comma between them and a newline at the end, written at the start of a lent output.
 use octets::Written;
 use provisioning::Message;
-ghost use mathlib.Core.Bool.{cond};
+ghost use mathlib.Core.Bool.{true, cond};
 ghost use mathlib.Core.List.{[], _∷_, _++_};
 ghost use mathlib.Core.Path.{_≡_};
 ghost use Prim.Native.Nat.{_+_, _*_, _-_, _≤_, min};
@@ -9,7 +9,8 @@ ghost use lib.Dec.{leb};
 ghost use lib.ListN.{length, take, drop};
 ghost use Rattle.octets.specs.Numbers.{octets32};
 ghost use Rattle.octets.specs.Parts.{part, write};
-ghost use Rattle.line_fields.specs.Lines.{decimalOf, hexadecimalOf, fieldText, lineOf, textWritten, textOutput, names, Names, textIn, Holds, FieldAsks};
+ghost use Rattle.octets.specs.Writing.{written, outputAfter};
+ghost use Rattle.line_fields.specs.Lines.{decimalOf, hexadecimalOf, fieldText, lineOf, names, Names, textIn, Holds, FieldAsks};
 ghost use Rattle.line_fields.specs.declared.Field.the-variants.{Mark, Refusal};
 
 // A field of a line.
@@ -44,8 +45,8 @@ pub const MOST: usize = 231;
 
 // A text at the start of the output, or refusal 11.
 pub fn write_text(text: &[u8], output: &mut [u8]) -> Written
-    ensures { λ r. ⌜ (r ≡ textWritten (now (text .entry)) (now (output .entry)))
-        × (now (output .exit) ≡ textOutput (now (text .entry)) (now (output .entry))) ⌝ }
+    ensures { λ r. ⌜ (r ≡ written true (now (text .entry)) (now (output .entry)))
+        × (now (output .exit) ≡ outputAfter true (now (text .entry)) (now (output .entry))) ⌝ }
 {
     if octet_parts::copy(output, 0, text, 0, text.len()) {
         Written::Count(text.len())
@@ -202,8 +203,8 @@ fn at_most_eleven(count: usize) -> usize
 
 // The line of the first fields. No line has more than the eleven of a record, and none of them more than 20 characters.
 pub fn write_fields(fields: [Field; 11], count: usize, output: &mut [u8]) -> Written
-    ensures { λ r. ⌜ (r ≡ textWritten (lineOf (take count fields)) (now (output .entry)))
-        × (now (output .exit) ≡ textOutput (lineOf (take count fields)) (now (output .entry)))
+    ensures { λ r. ⌜ (r ≡ written true (lineOf (take count fields)) (now (output .entry)))
+        × (now (output .exit) ≡ outputAfter true (lineOf (take count fields)) (now (output .entry)))
         × (length (lineOf (take count fields)) ≤ 231) ⌝ }
 {
     let last = at_most_eleven(count);

@@ -17,7 +17,7 @@ ghost use mathlib.Core.Path.{_≡_};
 ghost use mathlib.Core.Bool.{_&&_, not};
 ghost use lib.Dec.{eqb};
 ghost use lib.ListN.{drop};
-ghost use Rattle.transactions.specs.Segments.{isLength, segN};
+ghost use Rattle.transactions.specs.Segments.{segN};
 ghost use Rattle.links.specs.Marks.{isMarked, allMarked, noneAbove};
 ghost use Rattle.links.specs.Links.{peer, firstNumber};
 ghost use Rattle.links.specs.Good.{goodMessage, goodHalf, goodLast, isNothing, isEmpty, atRest, goodAs, goodLink, apart, all, allApart, good};
@@ -31,13 +31,6 @@ fn peer_of(side: Side) -> Side
         Side::Provisioner => Side::Device,
         Side::Device => Side::Provisioner,
     }
-}
-
-// Whether L is in range.
-fn is_length(length: u16) -> bool
-    ensures { λ r. ⌜ r ≡ isLength length ⌝ }
-{
-    if 1 <= length { length <= 1469 } else { false }
 }
 
 // Whether segment 0 is in, one is missing, and none above SegN is in.
@@ -62,7 +55,7 @@ fn good_message(side: Side, last: LastDelivered, message: HalfMessage) -> bool
     let number = message.number;
     let length = message.length;
     if is_sent_by(peer_of(side), number) {
-        if is_length(length) {
+        if octets::is_length(length as usize) {
             if is_last(last, number) {
                 false
             } else {

@@ -13,7 +13,7 @@ use borrow.Author.Tests.{eqb-true, eqb-false, eq-eqb, ne-eqb}
 use Rattle.octets.specs.Numbers.{Octets}
 use Rattle.octets.specs.Parts.{part}
 use Rattle.octets.proofs.Tests.{cases, both}
-use Rattle.transactions.specs.Numbers.{isSocket}
+use Rattle.transactions.specs.Numbers.{isSocket, socketPlace}
 use Rattle.transactions.specs.Segments.{segN}
 use Rattle.transactions.specs.declared.TransactionNumber.{TransactionNumber}
 use Rattle.transactions.specs.declared.Socket.{Socket}
@@ -25,7 +25,7 @@ use Rattle.pb_adv_writing.proofs.Promises.{parsed-frame}
 use Rattle.links.specs.Links.{sends, inUse, told}
 use Rattle.links.specs.Good.{good}
 use Rattle.links.specs.Segments.{OneLink}
-use Rattle.links.specs.Station.{Station, socketPlace, noLink, getLink, acknowledgementStep, ackStep, frameStep, received, linkAt, localOpen, localClose}
+use Rattle.links.specs.Station.{Station, noLink, getLink, acknowledgementStep, ackStep, frameStep, received, linkAt, localOpen, localClose}
 use Rattle.links.specs.Interleaving.{keepIf, All}
 use Rattle.links.specs.Operations.{Operation, receiving, opening, sending, closing, operate, afterAll}
 use Rattle.links.specs.Promises.{Sized, addressed, LocalCall}

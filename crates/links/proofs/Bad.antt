@@ -10,6 +10,7 @@ use lib.Dec.{eqb}
 use lib.ListN.{length, getD}
 use lib.Pow.{pow-pos, shr-shr}
 use borrow.Author.Tests.{eqb-true, eqb-false, eq-eqb, ne-eqb, not-true}
+use Rattle.transactions.specs.Numbers.{socketPlace}
 use Rattle.octets.proofs.Tests.{cases, both-hold, holds-both}
 use Rattle.transactions.specs.Segments.{segN}
 use Rattle.transactions.specs.declared.TransactionNumber.{TransactionNumber}
@@ -17,7 +18,7 @@ use Rattle.transactions.specs.declared.Socket.{Socket}
 use Rattle.links.specs.Marks.{isMarked, allMarked, noneAbove}
 use Rattle.links.specs.Links.{peer, sends, firstNumber, isLast, blankWith, inUse}
 use Rattle.links.specs.Good.{goodMessage, goodHalf, goodLast, isNothing, isEmpty, atRest, goodAs, goodLink, apart, allApart, good}
-use Rattle.links.specs.Station.{socketPlace, noLink, linkAt}
+use Rattle.links.specs.Station.{noLink, linkAt}
 use Rattle.links.specs.Bad.{InHalf, sendsFrom, blankRecord, MessageNotBad, LinkNotBad, NotBad, BadStates}
 use Rattle.links.specs.declared.Side.{Side}
 use Rattle.links.specs.declared.Side.the-variants.{Provisioner, Device}

@@ -10,7 +10,7 @@ use lib.ListN.{length, getD, take}
 use borrow.Author.Tests.{eqb-true, eqb-false, eq-eqb}
 use Rattle.octets.specs.Told.{answered}
 use Rattle.octets.proofs.Tests.{cases, both}
-use Rattle.transactions.specs.Numbers.{isSocket}
+use Rattle.transactions.specs.Numbers.{isSocket, socketPlace}
 use Rattle.transactions.specs.Segments.{segN, segment}
 use Rattle.transactions.specs.declared.TransactionNumber.{TransactionNumber}
 use Rattle.transactions.specs.declared.Socket.{Socket}
@@ -18,7 +18,7 @@ use Rattle.pb_adv_writing.specs.Writing.{headerOf, segmentFrame, messageFrames,
 use Rattle.links.specs.Links.{Awaits, find, told}
 use Rattle.links.specs.Good.{good}
 use Rattle.links.specs.Segments.{OneLink, segmentStep}
-use Rattle.links.specs.Station.{Station, socketPlace, noLink, getLink, putLink, ofSocket, received}
+use Rattle.links.specs.Station.{Station, noLink, getLink, putLink, ofSocket, received}
 use Rattle.links.specs.Interleaving.{keepIf, withKey, All, stateAfter}
 use Rattle.links.specs.Demand3.{Message, Call, callPlace, framesFor, Ready, cutAt, linkOf, Premises, Right, AllCome, First, delivery, called, after, answer, Claim, Demand3}
 use Rattle.links.specs.declared.Side.{Side}

@@ -17,14 +17,14 @@ use Rattle.octets.specs.Tables.{firstOf}
 use Rattle.octets.proofs.Tests.{both-hold}
 use Rattle.octets.proofs.Tables.{other-told}
 use Rattle.fcs.specs.Fcs.{checkOctet, octetStep, bitStep}
-use Rattle.transactions.specs.Numbers.{isSocket}
+use Rattle.transactions.specs.Numbers.{isSocket, socketPlace}
 use Rattle.transactions.specs.declared.Socket.{Socket}
 use Rattle.pb_adv.specs.Frame.{segmentOctets}
 use Rattle.pb_adv_writing.specs.Writing.{headerOf, segmentFrame}
 use Rattle.links.specs.Marks.{isMarked, withMark}
 use Rattle.links.specs.Links.{findFrom, told}
 use Rattle.links.specs.Good.{good}
-use Rattle.links.specs.Station.{Station, socketPlace, getLink, linkAt}
+use Rattle.links.specs.Station.{Station, getLink, linkAt}
 use Rattle.links.specs.Operations.{receiving, Receiver}
 use Rattle.links.specs.Demand3.{Message, Call, Ready, cutAt, Premises, Right, First, Demand3}
 use Rattle.links.specs.Demand2.{own, Prepared, CutComes, GivenBack, Back}

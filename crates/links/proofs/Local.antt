@@ -11,12 +11,13 @@ use borrow.Author.Tests.{eqb-true, eqb-false, leb-true, leb-false}
 use Rattle.octets.specs.Told.{answered}
 use Rattle.octets.proofs.Tables.{other-told}
 use Rattle.octets.proofs.Tests.{cases, both-hold}
-use Rattle.transactions.specs.Numbers.{isSocket}
-use Rattle.transactions.specs.Segments.{isLength, segN}
+use Rattle.octets.specs.Lengths.{isLength}
+use Rattle.transactions.specs.Numbers.{isSocket, socketPlace}
+use Rattle.transactions.specs.Segments.{segN}
 use Rattle.transactions.specs.declared.Socket.{Socket}
 use Rattle.links.specs.Links.{blank, blankWith, withSending, inUse, find, told}
 use Rattle.links.specs.Good.{good}
-use Rattle.links.specs.Station.{socketPlace, noLink, linkAt, withLink, judged, isFound, localOpen, isOpen, localSend, localClose}
+use Rattle.links.specs.Station.{noLink, linkAt, withLink, judged, isFound, localOpen, isOpen, localSend, localClose}
 use Rattle.links.specs.declared.Side.{Side}
 use Rattle.links.specs.declared.LinkState.the-variants as S
 use Rattle.links.specs.declared.Link.{Link}

@@ -9,6 +9,7 @@ use lib.Dec.{eqb}
 use lib.ListN.{length, getD, take}
 use lib.Seq.{append-snoc, length-take-le}
 use borrow.Author.Tests.{eqb-true, eqb-false}
+use Rattle.transactions.specs.Numbers.{socketPlace}
 use Rattle.octets.specs.Numbers.{Octets}
 use Rattle.octets.specs.Parts.{part, write}
 use Rattle.octets.proofs.Parts.{write-length}
@@ -26,7 +27,7 @@ use Rattle.pb_adv_writing.specs.Writing.{headerOf, segmentFrame}
 use Rattle.links.specs.Marks.{isMarked, withMark, allMarked}
 use Rattle.links.specs.Good.{goodLink, good}
 use Rattle.links.specs.Segments.{OneLink, marked}
-use Rattle.links.specs.Station.{Station, socketPlace, noLink, getLink, frameStep, atSocket, received}
+use Rattle.links.specs.Station.{Station, noLink, getLink, frameStep, atSocket, received}
 use Rattle.links.specs.Interleaving.{All, BeforeEach}
 use Rattle.links.specs.Operations.{Operation, receiving, opening, sending, closing, operate, afterAll, OfOctets}
 use Rattle.links.specs.Promises.{Sized, addressed}

@@ -10,10 +10,10 @@ use borrow.Author.Tests.{eqb-true, eqb-false}
 use Rattle.octets.specs.Numbers.{Octets}
 use Rattle.octets.specs.Told.{answered}
 use Rattle.octets.proofs.Tests.{cases}
-use Rattle.transactions.specs.Numbers.{isSocket}
+use Rattle.transactions.specs.Numbers.{isSocket, socketPlace}
 use Rattle.transactions.specs.declared.Socket.{Socket}
 use Rattle.links.specs.Links.{blankWith, inUse, find, told}
-use Rattle.links.specs.Station.{Station, socketPlace, noLink, getLink, received, isFound, localOpen}
+use Rattle.links.specs.Station.{Station, noLink, getLink, received, isFound, localOpen}
 use Rattle.links.specs.Interleaving.{All}
 use Rattle.links.specs.Operations.{Operation, receiving, opening, sending, closing, operate, afterAll, OfOctets}
 use Rattle.links.specs.Demand2.{OpenedBy, OpenedSince}

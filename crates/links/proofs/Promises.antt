@@ -14,7 +14,7 @@ use Rattle.octets.specs.Parts.{part}
 use Rattle.octets.specs.Told.{Told, refused, answered}
 use Rattle.octets.proofs.Tables.{other-told}
 use Rattle.octets.proofs.Tests.{cases, both-hold}
-use Rattle.transactions.specs.Numbers.{isSocket}
+use Rattle.transactions.specs.Numbers.{isSocket, socketPlace}
 use Rattle.pb_adv.specs.Frame.{parsed}
 use Rattle.transactions.specs.declared.Socket.{Socket}
 use Rattle.pb_adv.specs.declared.Segment.{Segment}
@@ -23,7 +23,7 @@ use Rattle.pb_adv.specs.declared.Parsed.the-variants as P
 use Rattle.links.specs.Links.{sends, blank, blankWith, find, refusalNumber, told}
 use Rattle.links.specs.Good.{goodLink, good}
 use Rattle.links.specs.Segments.{OneLink}
-use Rattle.links.specs.Station.{Station, socketPlace, noLink, getLink, putLink, frameRefusal, frameStep, atSocket, onFrame, received, linkAt, withLink, isFound, localOpen, isOpen, localSend, localClose}
+use Rattle.links.specs.Station.{Station, noLink, getLink, putLink, frameRefusal, frameStep, atSocket, onFrame, received, linkAt, withLink, isFound, localOpen, isOpen, localSend, localClose}
 use Rattle.links.specs.Operations.{Operation, receiving, opening, sending as sends-message, closing, operate, afterAll}
 use Rattle.links.specs.Tables.{leaves}
 use Rattle.links.specs.Promises.{Sized, ReceivingRefusalKeeps, ReceivingKeepsGood, addressed, ReceivingLeavesOthers, LocalCall, LocalCalls}

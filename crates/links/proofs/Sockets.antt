@@ -6,9 +6,8 @@ use mathlib.Core.Path.{_≡_}
 use lib.Dec.{leb}
 use borrow.Author.Tests.{leb-true, le-leb}
 use Rattle.octets.proofs.Tests.{both-hold, holds-both}
-use Rattle.transactions.specs.Numbers.{isSocket}
+use Rattle.transactions.specs.Numbers.{isSocket, socketPlace}
 use Rattle.transactions.specs.declared.Socket.{Socket}
-use Rattle.links.specs.Station.{socketPlace}
 
 -- the socket of a place
 abbrev pub socketAt : ℕ → Socket

@@ -19,7 +19,7 @@ use Rattle.pb_adv.specs.declared.Parsed.the-variants as P
 use Rattle.pb_adv.proofs.Promises.{segments-are-encodings}
 use Rattle.links.specs.Marks.{withMark, allMarked}
 use Rattle.links.specs.Links.{peer, sends}
-use Rattle.links.specs.Segments.{OneLink, partWith, whole, wrong, kept, entered, segmentStep}
+use Rattle.links.specs.Segments.{OneLink, marked, partWith, whole, wrong, kept, entered, segmentStep}
 use Rattle.links.specs.Station.{acknowledgementStep, ackStep, frameRefusal, frameStep}
 use Rattle.links.specs.declared.Side.{Side}
 use Rattle.links.specs.declared.Side.the-variants.{Provisioner, Device}
@@ -45,9 +45,9 @@ kept-same l = stays (λ e. e) refl refl
 module _ (x : OneLink) (h : HalfMessage) (k : ℕ) (d : List ℕ) where
   pub data Ends (r : Answer × OneLink) : Type 0 where
     isWhole : allMarked (segN (h .length)) (withMark (h .marks) k) ≡ true → checkOctet (take (h .length) (partWith x h k d)) ≡ h .check
-        → r ≡ whole x h k d → Ends r
-    isWrong : r ≡ wrong x h k d → Ends r
-    isKept : r ≡ kept x h k d → Ends r
+        → r ≡ whole (x .link) (marked h k) (partWith x h k d) → Ends r
+    isWrong : r ≡ wrong (x .link) (marked h k) (partWith x h k d) → Ends r
+    isKept : r ≡ kept (x .link) (marked h k) (partWith x h k d) → Ends r
 
   pub ends : Ends (entered x h k d)
   unfolding entered

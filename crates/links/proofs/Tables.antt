@@ -14,9 +14,10 @@ use Rattle.octets.specs.Cut.{piece}
 use Rattle.octets.specs.Tables.{Row, refusal, reply, firstOf}
 use Rattle.octets.proofs.Tests.{cases, both-hold}
 use Rattle.octets.proofs.Tables.{by-table}
+use Rattle.octets.specs.Lengths.{isLength}
 use Rattle.fcs.specs.Fcs.{checkOctet}
-use Rattle.transactions.specs.Numbers.{isSocket}
-use Rattle.transactions.specs.Segments.{isLength, segN, segmentPlace, segmentLength}
+use Rattle.transactions.specs.Numbers.{isSocket, socketPlace}
+use Rattle.transactions.specs.Segments.{segN, segmentPlace, segmentLength}
 use Rattle.pb_adv.specs.Frame.{linkId, numberOf, kindOf, highBits, parsed}
 use Rattle.pb_adv.specs.Tables.{isKind, isControl, isSegment, lengthIn, malformed, unknownOpcode}
 use Rattle.pb_adv.specs.declared.SegmentHeader.{SegmentHeader}
@@ -28,7 +29,7 @@ use Rattle.links.specs.Marks.{isMarked, withMark, allMarked}
 use Rattle.links.specs.Links.{peer, sends, isLast, inUse, findFrom, find, told}
 use Rattle.links.specs.Good.{goodAs, goodLink, good}
 use Rattle.links.specs.Segments.{OneLink, entered, offered, begun, onHalf, segmentStep}
-use Rattle.links.specs.Station.{Station, socketPlace, noLink, getLink, putLink, linkAt, isFound, isOpen, acknowledgementStep, ackStep, frameStep, atSocket, onFrame, received, localOpen, localSend, localClose}
+use Rattle.links.specs.Station.{Station, noLink, getLink, putLink, linkAt, isFound, isOpen, acknowledgementStep, ackStep, frameStep, atSocket, onFrame, received, localOpen, localSend, localClose}
 use Rattle.links.specs.Tables.{isFree, isIdInUse, linkFound, isOpening, notOpen, wrongDirection, notOutstanding, checkIn, hasLastNumber, isLastDelivered, messageOf, notBegun, isUnfit, otherOctets, isLastMissing, otherCheck, mismatches, wrongCheck, isComplete, isRepeat, receivingRows, ReceivingTable, leaves, ReceivingLeaves, openRows, sendRows, closeRows, LocalTables}
 use Rattle.links.specs.declared.Side.{Side}
 use Rattle.links.specs.declared.Side.the-variants.{Provisioner, Device}

@@ -9,7 +9,7 @@ use lib.ListN.{length, take}
 use Rattle.octets.specs.Numbers.{Octets}
 use Rattle.octets.specs.Told.{answered}
 use Rattle.pb_adv.specs.Frame.{linkId, parsed}
-use Rattle.transactions.specs.Numbers.{isSocket}
+use Rattle.transactions.specs.Numbers.{isSocket, socketPlace}
 use Rattle.transactions.specs.declared.TransactionNumber.{TransactionNumber}
 use Rattle.transactions.specs.declared.Socket.{Socket}
 use Rattle.pb_adv.specs.declared.Parsed.{Parsed}
@@ -18,7 +18,7 @@ use Rattle.pb_adv_writing.specs.Writing.{segmentFrame, messageFrames}
 use Rattle.links.specs.Links.{inUse, told}
 use Rattle.links.specs.Good.{good}
 use Rattle.links.specs.Segments.{OneLink}
-use Rattle.links.specs.Station.{Station, socketPlace, ofSocket, received}
+use Rattle.links.specs.Station.{Station, ofSocket, received}
 use Rattle.links.specs.Interleaving.{All, stateAfter, BeforeEach}
 use Rattle.links.specs.Operations.{Operation, receiving, opening, sending, closing, ReceivingStep, Receiver, operateBy, operate, afterAll, OfOctets}
 use Rattle.links.specs.Promises.{Sized, addressed}

@@ -7,14 +7,14 @@ use mathlib.Core.Path.{_≡_}
 use lib.Dec.{eqb}
 use lib.ListN.{length, take}
 use Rattle.octets.specs.Told.{Told, answered}
-use Rattle.transactions.specs.Numbers.{isSocket}
+use Rattle.transactions.specs.Numbers.{isSocket, socketPlace}
 use Rattle.transactions.specs.declared.TransactionNumber.{TransactionNumber}
 use Rattle.transactions.specs.declared.Socket.{Socket}
 use Rattle.pb_adv.specs.Frame.{kindOf}
 use Rattle.pb_adv_writing.specs.Writing.{messageFrames}
 use Rattle.links.specs.Links.{peer, sends, Awaits, told}
 use Rattle.links.specs.Good.{good}
-use Rattle.links.specs.Station.{Station, socketPlace, ofSocket, linkAt}
+use Rattle.links.specs.Station.{Station, ofSocket, linkAt}
 use Rattle.links.specs.Promises.{Sized}
 use Rattle.links.specs.Interleaving.{withKey, inTurn, All, stateAfter, answers, keyOf}
 use Rattle.links.specs.Operations.{ReceivingStep, Receiver}

@@ -3,7 +3,8 @@
 use mathlib.Core.Bool.{Bool, true, false, _&&_, not}
 use mathlib.Core.List.{List, [], _∷_}
 use lib.Dec.{eqb}
-use Rattle.transactions.specs.Segments.{isLength, segN}
+use Rattle.octets.specs.Lengths.{isLength}
+use Rattle.transactions.specs.Segments.{segN}
 use Rattle.links.specs.Marks.{isMarked, allMarked, noneAbove}
 use Rattle.links.specs.Links.{peer, sends, firstNumber, isLast, inUse}
 use Rattle.links.specs.declared.Side.{Side}

@@ -6,6 +6,7 @@ use mathlib.Core.List.{List}
 use mathlib.Core.Logic.{_≢_}
 use mathlib.Core.Path.{_≡_}
 use lib.ListN.{length, getD}
+use Rattle.transactions.specs.Numbers.{socketPlace}
 use Rattle.octets.specs.Numbers.{Octets}
 use Rattle.octets.specs.Told.{refused}
 use Rattle.pb_adv.specs.Frame.{parsed}
@@ -15,7 +16,7 @@ use Rattle.pb_adv.specs.declared.Parsed.{Parsed}
 use Rattle.pb_adv.specs.declared.Parsed.the-variants as P
 use Rattle.links.specs.Links.{find, told}
 use Rattle.links.specs.Good.{good}
-use Rattle.links.specs.Station.{Station, socketPlace, noLink, getLink, received, localOpen, localSend, localClose}
+use Rattle.links.specs.Station.{Station, noLink, getLink, received, localOpen, localSend, localClose}
 use Rattle.links.specs.declared.Side.{Side}
 use Rattle.links.specs.declared.Side.the-variants.{Provisioner}
 use Rattle.links.specs.declared.Link.{Link}

@@ -31,29 +31,36 @@ pub record OneLink : Type 0 where
 abbrev pub marked : HalfMessage → ℕ → HalfMessage
 marked h k = record { number = h .number; length = h .length; check = h .check; marks = withMark (h .marks) k }
 
+-- ---- the half-received message m, once a segment of it is marked and stands in the part p
+
+module _ (link : Link) (m : HalfMessage) (p : List ℕ) where
+  -- "A message complete and checked answers 'delivered' with length and number; [..] the half-received record is cleared."
+  abbrev pub whole : Answer × OneLink
+  whole = (A.Delivered (m .length) (m .number), record { link = withReceived link (L.Number (m .number)) H.Nothing; part = p })
+
+  -- "Refusal 8 clears it too, the octets, the last segment's among them, stay written, and the last delivered number stays."
+  abbrev pub wrong : Answer × OneLink
+  wrong = (A.Refused R.WrongCheck, record { link = withReceived link (link .last) H.Nothing; part = p })
+
+  -- "A new segment that leaves others missing answers 'kept'; only its octets change in the area."
+  abbrev pub kept : Answer × OneLink
+  kept = (A.Kept, record { link = withReceived link (link .last) (H.Message m); part = p })
+
+  -- by the segments that are in, and by the check octet once all are
+  abbrev pub completed : Answer × OneLink
+  completed =
+      cond (allMarked (segN (m .length)) (m .marks))
+      (cond (eqb (checkOctet (take (m .length) p)) (m .check)) whole wrong)
+      kept
+
 module _ (x : OneLink) (h : HalfMessage) (k : ℕ) (d : List ℕ) where
   -- the part with the segment's octets at their place
   abbrev pub partWith : List ℕ
   partWith = write (x .part) (segmentPlace k) d
 
-  -- "A message complete and checked answers 'delivered' with length and number; [..] the half-received record is cleared."
-  abbrev pub whole : Answer × OneLink
-  whole = (A.Delivered (h .length) (h .number), record { link = withReceived (x .link) (L.Number (h .number)) H.Nothing; part = partWith })
-
-  -- "Refusal 8 clears it too, the octets, the last segment's among them, stay written, and the last delivered number stays."
-  abbrev pub wrong : Answer × OneLink
-  wrong = (A.Refused R.WrongCheck, record { link = withReceived (x .link) (x .link .last) H.Nothing; part = partWith })
-
-  -- "A new segment that leaves others missing answers 'kept'; only its octets change in the area."
-  abbrev pub kept : Answer × OneLink
-  kept = (A.Kept, record { link = withReceived (x .link) (x .link .last) (H.Message (marked h k)); part = partWith })
-
   -- a new segment k of the half-received message h, with octets d
   unfoldable pub entered : Answer × OneLink
-  entered =
-      cond (allMarked (segN (h .length)) (withMark (h .marks) k))
-      (cond (eqb (checkOctet (take (h .length) partWith)) (h .check)) whole wrong)
-      kept
+  entered = completed (x .link) (marked h k) partWith
 
   -- a segment k of it, new or not: 7 above SegN, of a wrong length, or unlike the octets that are in; "repeat" like them
   unfoldable pub offered : Answer × OneLink

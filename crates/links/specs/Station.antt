@@ -1,12 +1,13 @@
 -- The station: link records, as many as there are sockets, and one area with 1,469 octets for each; the receiving call and the local calls.
-use Prim.Native.Nat.{ℕ, _*_, _-_}
+use Prim.Native.Nat.{ℕ, _*_}
 use mathlib.Core.Bool.{Bool, true, false, _&&_, cond}
 use mathlib.Core.List.{List}
 use lib.Dec.{eqb}
 use lib.ListN.{length, getD, set}
 use Rattle.octets.specs.Parts.{part, write}
-use Rattle.transactions.specs.Numbers.{numberAfter, isSocket}
-use Rattle.transactions.specs.Segments.{isLength, segN}
+use Rattle.octets.specs.Lengths.{isLength}
+use Rattle.transactions.specs.Numbers.{numberAfter, isSocket, socketPlace}
+use Rattle.transactions.specs.Segments.{segN}
 use Rattle.pb_adv.specs.Frame.{parsed}
 use Rattle.transactions.specs.declared.TransactionNumber.{TransactionNumber}
 use Rattle.transactions.specs.declared.Socket.{Socket}
@@ -34,10 +35,6 @@ pub record Station : Type 0 where
   pub area : List ℕ
 
 -- ---- one socket's record and part
-
--- the place of a socket, which counts from 1, among the records and the parts, which count from 0
-abbrev pub socketPlace : Socket → ℕ
-socketPlace s = s .0 - 1
 
 -- what is read past the last record
 abbrev pub noLink : Link
@@ -136,12 +133,14 @@ isFound (At s) = true
 isFound Nowhere = false
 
 -- "Open: 11, then 9 socket in use, then 10 Link ID in use"
-unfoldable pub localOpen : Side → List Link → Socket → ℕ → Answer × List Link
-localOpen side ls s id =
-    judged side ls (isSocket s (length ls))
-    (cond (inUse (linkAt ls s .state)) (A.Refused R.SocketInUse, ls)
+abbrev pub openAt : Side → List Link → Socket → ℕ → Answer × List Link
+openAt side ls s id =
+    cond (inUse (linkAt ls s .state)) (A.Refused R.SocketInUse, ls)
     (cond (isFound (find ls id)) (A.Refused R.LinkIdInUse, ls)
-    (A.Done, withLink ls s (blankWith side S.Opening id))))
+    (A.Done, withLink ls s (blankWith side S.Opening id)))
+
+unfoldable pub localOpen : Side → List Link → Socket → ℕ → Answer × List Link
+localOpen side ls s id = judged side ls (isSocket s (length ls)) (openAt side ls s id)
 
 abbrev pub isOpen : LinkState → Bool
 isOpen S.Free = false
@@ -149,16 +148,19 @@ isOpen S.Opening = false
 isOpen S.Open = true
 
 -- "Send: 11, 4 (not open), 13 (one outstanding); it sets the mark and gives the number and SegN", for a message of n octets
-unfoldable pub localSend : Side → List Link → Socket → ℕ → Answer × List Link
-localSend side ls s n =
-    judged side ls (isSocket s (length ls) && isLength n)
-    (cond (isOpen (linkAt ls s .state))
+abbrev pub sendAt : List Link → Socket → ℕ → Answer × List Link
+sendAt ls s n =
+    cond (isOpen (linkAt ls s .state))
     (cond (linkAt ls s .outstanding) (A.Refused R.Outstanding, ls)
     (A.Sending (linkAt ls s .next) (segN n), withLink ls s (withSending (linkAt ls s) (linkAt ls s .next) true)))
-    (A.Refused R.NotOpen, ls))
+    (A.Refused R.NotOpen, ls)
+
+unfoldable pub localSend : Side → List Link → Socket → ℕ → Answer × List Link
+localSend side ls s n = judged side ls (isSocket s (length ls) && isLength n) (sendAt ls s n)
 
 -- "Close: 11, 4 (free); it frees the record"
+abbrev pub closeAt : Side → List Link → Socket → Answer × List Link
+closeAt side ls s = cond (inUse (linkAt ls s .state)) (A.Done, withLink ls s (blank side)) (A.Refused R.NotOpen, ls)
+
 unfoldable pub localClose : Side → List Link → Socket → Answer × List Link
-localClose side ls s =
-    judged side ls (isSocket s (length ls))
-    (cond (inUse (linkAt ls s .state)) (A.Done, withLink ls s (blank side)) (A.Refused R.NotOpen, ls))
+localClose side ls s = judged side ls (isSocket s (length ls)) (closeAt side ls s)

@@ -13,7 +13,7 @@ use Rattle.octets.specs.Cut.{piece}
 use Rattle.octets.specs.Told.{answered}
 use Rattle.octets.specs.Tables.{Row, refusal, reply, ByTable}
 use Rattle.fcs.specs.Fcs.{checkOctet}
-use Rattle.transactions.specs.Numbers.{numberAfter}
+use Rattle.transactions.specs.Numbers.{numberAfter, socketPlace}
 use Rattle.transactions.specs.Segments.{segN, segmentPlace, segmentLength}
 use Rattle.transactions.specs.declared.Socket.{Socket}
 use Rattle.pb_adv.specs.Frame.{linkId, numberOf, highBits}
@@ -23,7 +23,7 @@ use Rattle.links.specs.Links.{find, refusalNumber, told}
 use Rattle.links.specs.Good.{good}
 use Rattle.links.specs.Bad.{blankRecord}
 use Rattle.links.specs.Segments.{OneLink, marked, begun}
-use Rattle.links.specs.Station.{Station, socketPlace, getLink, putLink, received, linkAt, localOpen, localSend, localClose}
+use Rattle.links.specs.Station.{Station, getLink, putLink, received, linkAt, localOpen, localSend, localClose}
 use Rattle.links.specs.Promises.{Sized}
 use Rattle.links.specs.Operations.{Receiver}
 use Rattle.links.specs.declared.Side.{Side}

@@ -11,27 +11,16 @@ use links::LinkState;
 use links::Refusal;
 use links::Side;
 use transactions::Socket;
-ghost use Prim.Native.Nat.{_-_, _≤_, _<_};
 ghost use mathlib.Core.Path.{_≡_};
-ghost use Rattle.transactions.specs.Segments.{isLength};
-ghost use Rattle.links.specs.Station.{localOpen, localSend, localClose};
+ghost use Rattle.links.specs.Station.{openAt, localOpen, sendAt, localSend, closeAt, localClose};
 ghost use Rattle.links.specs.declared.Side.the-variants.{Provisioner};
-ghost use Rattle.local_calls.specs.Calls.{calledOf, CallAsks};
+ghost use Rattle.local_calls.specs.Calls.{calledOf};
 
-// The place of a socket's record.
-fn place_of(socket: Socket) -> usize
-    requires { ⌜ (1 ≤ socket .0) × (socket .0 ≤ 8) ⌝ }
-    ensures { λ r. ⌜ (r ≡ socket .0 - 1) × (r < 8) ⌝ }
-{
-    socket.0 as usize - 1
-}
-
-// Opens a link at a socket of the station, in a state that is not bad.
+// Open past 11 and 14.
 fn open_at(links: [Link; 8], socket: Socket, id: u32) -> Received
-    requires { ⌜ CallAsks links socket ⌝ }
-    ensures { λ r. ⌜ r ≡ calledOf (localOpen Provisioner links socket id) ⌝ }
+    ensures { λ r. ⌜ r ≡ calledOf (openAt Provisioner links socket id) ⌝ }
 {
-    let place = place_of(socket);
+    let place = socket.place();
     let link = link_at(links, place);
     let state = link.state;
     if link_fields::is_in_use(state) {
@@ -60,12 +49,11 @@ pub fn open(links: [Link; 8], socket: Socket, id: u32) -> Received
     refuse_call(links, Refusal::WrongArgument)
 }
 
-// Begins to send on a socket of the station, in a state that is not bad.
+// Send past 11 and 14.
 fn send_at(links: [Link; 8], socket: Socket, length: u16) -> Received
-    requires { ⌜ CallAsks links socket × (1 ≤ length) × (length ≤ 1469) ⌝ }
-    ensures { λ r. ⌜ r ≡ calledOf (localSend Provisioner links socket length) ⌝ }
+    ensures { λ r. ⌜ r ≡ calledOf (sendAt links socket length) ⌝ }
 {
-    let place = place_of(socket);
+    let place = socket.place();
     let link = link_at(links, place);
     let state = link.state;
     if link_fields::is_open(state) {
@@ -88,18 +76,12 @@ fn send_at(links: [Link; 8], socket: Socket, length: u16) -> Received
     refuse_call(links, Refusal::NotOpen)
 }
 
-fn is_length(length: usize) -> bool
-    ensures { λ r. ⌜ r ≡ isLength length ⌝ }
-{
-    if 1 <= length { length <= 1469 } else { false }
-}
-
 // Begins to send a message of so many octets on a socket's link: its number and SegN.
 pub fn send(links: [Link; 8], socket: Socket, length: usize) -> Received
     ensures { λ r. ⌜ r ≡ calledOf (localSend Provisioner links socket length) ⌝ }
 {
     if socket.is_one_of(8) {
-        if is_length(length) {
+        if octets::is_length(length) {
             if link_state::is_good(Side::Provisioner, links) {
                 return send_at(links, socket, length as u16);
             }
@@ -110,12 +92,11 @@ pub fn send(links: [Link; 8], socket: Socket, length: usize) -> Received
     refuse_call(links, Refusal::WrongArgument)
 }
 
-// Closes a link of the station, in a state that is not bad.
+// Close past 11 and 14.
 fn close_at(links: [Link; 8], socket: Socket) -> Received
-    requires { ⌜ CallAsks links socket ⌝ }
-    ensures { λ r. ⌜ r ≡ calledOf (localClose Provisioner links socket) ⌝ }
+    ensures { λ r. ⌜ r ≡ calledOf (closeAt Provisioner links socket) ⌝ }
 {
-    let place = place_of(socket);
+    let place = socket.place();
     let link = link_at(links, place);
     let state = link.state;
     if link_fields::is_in_use(state) {

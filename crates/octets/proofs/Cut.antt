@@ -11,6 +11,7 @@ use lib.Seq.{take-all, length-take-le, getD-at}
 use borrow.Author.Tests.{leb-true, leb-false}
 use Rattle.octets.specs.Parts.{write}
 use Rattle.octets.specs.Cut.{placeOf, lastOf, sizeOf, piece, upTo, cut, joined, placed}
+use Rattle.octets.specs.Promises.{AllCuts}
 use Rattle.octets.proofs.Parts.{part-length, part-take, take-part, part-same, part-before, part-after, write-next, write-start, write-nothing}
 use Rattle.octets.proofs.Tests.{cases}
 
@@ -208,3 +209,16 @@ pub piece-begins : (a b n k : ℕ) → 0 < b → 0 < n → k ≤ lastOf a b n �
 piece-begins a b n zero pos some h = some
 piece-begins a b n (suc k) pos some h =
     cases (leb n (a + b * k)) (λ e. absurd (omega (arith, last-least a b n k pos (leb-true n (a + b * k) e)))) (λ e. leb-false n (a + b * k) e)
+
+pub all-cuts : AllCuts
+all-cuts a b l pos = record {
+  enough = last-enough a b (length l) pos;
+  least = λ N. last-least a b (length l) N pos;
+  count = cut-count a b pos l;
+  pieces = cut-piece a b pos l;
+  first = cut-first a b pos l;
+  further = cut-further a b pos l;
+  begins = λ k. piece-begins a b (length l) k pos;
+  together = joined-cut a b pos l;
+  back = placed-cut a b pos l;
+}

@@ -1,9 +1,10 @@
 -- The laws that turn what a branch showed into the value of the test that a definition names, and a split on a test.
-use Prim.Native.Nat.{ℕ}
+use Prim.Native.Nat.{ℕ, _≤_}
 use mathlib.Core.Bool.{Bool, true, false, _&&_, _||_, not, and-eq-true-iff}
 use mathlib.Core.Path.{_≡_, refl}
 use lib.Dec.{leb, ltb}
 use borrow.Author.Tests.{le-leb, lt-leb, lt-ltb, le-ltb, eq-eqb, ne-eqb, leb-true, leb-false}
+use Rattle.octets.specs.Lengths.{isLength}
 
 pub ruleset tests = (le-leb, lt-leb, le-ltb, eq-eqb, ne-eqb)
 
@@ -24,6 +25,10 @@ both-hold {a} {b} e = and-eq-true-iff a b .0 e
 -- a test of two parts that hold
 pub holds-both : {a b : Bool} → a ≡ true → b ≡ true → (a && b) ≡ true
 holds-both {a} {b} p q = rw (p, q)
+
+-- how many octets a message has
+pub length-out : (n : ℕ) → isLength n ≡ true → (1 ≤ n) × (n ≤ 1469)
+length-out n e = let p = both-hold e in (leb-true 1 n (p .0), leb-true n 1469 (p .1))
 
 -- ---- denials
 

@@ -1,14 +1,15 @@
 -- Laws of writers to a lent output, and the promises of `specs/Promises.antt`.
 use Prim.Native.Nat.{ℕ, _≤_, _<_}
-use native.Mathlib.Nat.{zero-add}
+use native.Mathlib.Nat.{zero-add, sub-zero}
 use native.Mathlib.Omega.{arith}
 use mathlib.Core.Bool.{Bool, true, false}
 use mathlib.Core.List.{List, [], _∷_}
 use mathlib.Core.Path.{_≡_, refl}
 use lib.Dec.{leb, ltb}
 use lib.ListN.{length, take}
+use lib.Seq.{take-length}
 use borrow.Author.Tests.{leb-true, le-leb, lt-leb, ltb-true, ltb-false}
-use Rattle.octets.specs.Parts.{write}
+use Rattle.octets.specs.Parts.{write, copyFits, copied}
 use Rattle.octets.specs.Told.{answered}
 use Rattle.octets.specs.Writing.{told, isWritten, written, outputAfter}
 use Rattle.octets.specs.Promises.{RefusalKeeps, WritesFront, writerRows, WriterTable}
@@ -31,6 +32,17 @@ module _ (d output : List ℕ) (fits : length d ≤ length output) where
 pub output-short : (d output : List ℕ) → length output < length d → (WrongArgument ≡ written true d output) × (output ≡ outputAfter true d output)
 unfolding written outputAfter
 output-short d output h = rw (lt-leb (length d) (length output) h) (refl, refl)
+
+-- a copy of a whole list to the start of an output is a writer of it
+module _ (d output : List ℕ) where
+  pub copy-fits : copyFits output 0 d 0 (length d) ≡ isWritten true d output
+  copy-fits =
+      rw (sub-zero (length output), sub-zero (length d), le-leb 0 (length output) (omega arith), le-leb 0 (length d) (omega arith), le-leb (length d) (length d) (omega arith))
+      (cases (leb (length d) (length output)) (λ e. rw e) (λ e. rw e))
+
+  pub copy-writes : copied output 0 d 0 (length d) ≡ outputAfter true d output
+  unfolding copied outputAfter
+  copy-writes = rw (copy-fits, take-length d)
 
 pub refusal-keeps : RefusalKeeps
 unfolding written outputAfter

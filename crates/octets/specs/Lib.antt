@@ -1,4 +1,5 @@
 pub mod Numbers
+pub mod Lengths
 pub mod Parts
 pub mod Cut
 pub mod Told

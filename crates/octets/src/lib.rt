@@ -1,8 +1,9 @@
-// Lists of octets: big-endian numbers, and the answer of a writer.
+// Lists of octets: big-endian numbers, how long a message may be, and the answer of a writer.
 ghost use mathlib.Core.Path.{_≡_};
 ghost use Prim.Native.Nat.{_<_};
 ghost use lib.ListN.{getD};
 ghost use Rattle.octets.specs.Numbers.{big16, big32};
+ghost use Rattle.octets.specs.Lengths.{isLength};
 
 // The answer of a writer to a lent output.
 pub enum Written {
@@ -10,6 +11,20 @@ pub enum Written {
     Count(usize),
     // Refusal 11: an argument is wrong, or the output is too short. The output is as it was.
     WrongArgument,
+}
+
+// The octets of the longest message, over PB-ADV and over a proxy.
+pub const LONGEST_MESSAGE: usize = 1469;
+
+// Whether a message may have so many octets.
+pub fn is_length(count: usize) -> bool
+    ensures { λ r. ⌜ r ≡ isLength count ⌝ }
+{
+    if 1 <= count {
+        count <= LONGEST_MESSAGE
+    } else {
+        false
+    }
 }
 
 // The octet at a place; 0 past the end.

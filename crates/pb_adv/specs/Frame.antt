@@ -7,7 +7,8 @@ use lib.ListN.{length, getD}
 use Rattle.octets.specs.Numbers.{big16, big32, octets16, octets32}
 use Rattle.octets.specs.Parts.{part}
 use Rattle.octets.specs.Told.{Told, refused, answered}
-use Rattle.transactions.specs.Segments.{isLength, segN}
+use Rattle.octets.specs.Lengths.{isLength}
+use Rattle.transactions.specs.Segments.{segN}
 use Rattle.transactions.specs.declared.TransactionNumber.{TransactionNumber}
 use Rattle.pb_adv.specs.declared.SegmentHeader.{SegmentHeader}
 use Rattle.pb_adv.specs.declared.SegmentHeader.the-variants.{Start, Continuation}

@@ -3,6 +3,7 @@ use super::FrameRefusal;
 use super::Parsed;
 use super::Segment;
 use super::SegmentHeader;
+use octets::is_length;
 use octets::octet_at;
 use octets::read16;
 use octets::read32;
@@ -10,6 +11,7 @@ use transactions::TransactionNumber;
 use transactions::last_segment;
 ghost use mathlib.Core.Path.{_≡_};
 ghost use Prim.Native.Nat.{_≤_};
+ghost use lib.Dec.{eqb};
 ghost use lib.ListN.{length};
 ghost use Rattle.pb_adv.specs.Frame.{segmentFrom, isStart, startOf, acknowledgementOf, continuationOf, controlOf, parsed};
 
@@ -30,10 +32,7 @@ fn is_start(frame: &[u8]) -> bool
     ensures { λ r. ⌜ r ≡ isStart (now (frame .entry)) ⌝ }
 {
     let length = read16(frame, 6);
-    if length < 1 {
-        return false;
-    }
-    if 1469 < length {
+    if !is_length(length as usize) {
         return false;
     }
     if (octet_at(frame, 5) / 4) as u16 != last_segment(length) {
@@ -87,6 +86,13 @@ fn parse_continuation(frame: &[u8]) -> Parsed
     segment_from(frame, SegmentHeader::Continuation { index: index }, 6)
 }
 
+// Whether a control frame with the opcode of a Close is one: its number is ignored.
+fn is_close(frame: &[u8]) -> bool
+    ensures { λ r. ⌜ r ≡ eqb (length (now (frame .entry))) 7 ⌝ }
+{
+    frame.len() == 7
+}
+
 fn parse_control(frame: &[u8]) -> Parsed
     ensures { λ r. ⌜ r ≡ controlOf (now (frame .entry)) ⌝ }
 {
@@ -105,7 +111,7 @@ fn parse_control(frame: &[u8]) -> Parsed
         return Parsed::Refused(FrameRefusal::Malformed);
     }
     if opcode == 2 {
-        if frame.len() == 7 {
+        if is_close(frame) {
             return Parsed::Close {
                 id: id,
                 reason: octet_at(frame, 6),

@@ -7,8 +7,9 @@ use lib.ListN.{length, take, drop}
 use Rattle.octets.specs.Parts.{part, write}
 use Rattle.octets.specs.Told.{Told, answered}
 use Rattle.octets.specs.Writing.{told, written, outputAfter}
+use Rattle.octets.specs.Lengths.{isLength}
 use Rattle.fcs.specs.Fcs.{checkOctet}
-use Rattle.transactions.specs.Segments.{isLength, segN, segmentPlace, segmentLength, segment}
+use Rattle.transactions.specs.Segments.{segN, segmentPlace, segmentLength, segment}
 use Rattle.pb_adv.specs.Frame.{parsed, carried, indexOf, told as frameTold, acknowledgementOctets, openOctets, ackOctets, closeOctets, isUuid}
 use Rattle.pb_adv.specs.Promises.{segmentSaid}
 use Rattle.transactions.specs.declared.TransactionNumber.{TransactionNumber}

@@ -5,8 +5,9 @@ use mathlib.Core.List.{List, map}
 use lib.Dec.{leb}
 use lib.ListN.{length}
 use Rattle.octets.specs.Cut.{upTo}
+use Rattle.octets.specs.Lengths.{isLength}
 use Rattle.fcs.specs.Fcs.{checkOctet}
-use Rattle.transactions.specs.Segments.{isLength, segN, segment}
+use Rattle.transactions.specs.Segments.{segN, segment}
 use Rattle.pb_adv.specs.Frame.{segmentOctets}
 use Rattle.transactions.specs.declared.TransactionNumber.{TransactionNumber}
 use Rattle.pb_adv.specs.declared.SegmentHeader.{SegmentHeader}

@@ -18,13 +18,13 @@ pub fn write_acknowledgement(id: u32, number: TransactionNumber, output: &mut [u
     ensures { λ r. ⌜ (r ≡ written true (acknowledgementOctets id number) (now (output .entry)))
         × (now (output .exit) ≡ outputAfter true (acknowledgementOctets id number) (now (output .entry))) ⌝ }
 {
-    write_frame(output, id, number.0, 1, b"", b"")
+    write_frame(output, id, number, 1, b"", b"")
 }
 
-fn put_start(id: u32, number: u8, message: &[u8], output: &mut [u8]) -> Written
+fn put_start(id: u32, number: TransactionNumber, message: &[u8], output: &mut [u8]) -> Written
     requires { ⌜ SegmentAsked (now message) 0 ⌝ }
-    ensures { λ r. ⌜ (r ≡ written true (segmentFrame id (record { 0 = number }) (now (message .entry)) 0) (now (output .entry)))
-        × (now (output .exit) ≡ outputAfter true (segmentFrame id (record { 0 = number }) (now (message .entry)) 0) (now (output .entry))) ⌝ }
+    ensures { λ r. ⌜ (r ≡ written true (segmentFrame id number (now (message .entry)) 0) (now (output .entry)))
+        × (now (output .exit) ≡ outputAfter true (segmentFrame id number (now (message .entry)) 0) (now (output .entry))) ⌝ }
 {
     let length = message.len() as u16;
     let count = segment_length(length, 0);
@@ -34,10 +34,16 @@ fn put_start(id: u32, number: u8, message: &[u8], output: &mut [u8]) -> Written
     write_frame(output, id, number, kind, &fields, &message[..count])
 }
 
-fn put_continuation(id: u32, number: u8, message: &[u8], index: u16, output: &mut [u8]) -> Written
+fn put_continuation(
+    id: u32,
+    number: TransactionNumber,
+    message: &[u8],
+    index: u16,
+    output: &mut [u8],
+) -> Written
     requires { ⌜ (1 ≤ index) × SegmentAsked (now message) index ⌝ }
-    ensures { λ r. ⌜ (r ≡ written true (segmentFrame id (record { 0 = number }) (now (message .entry)) index) (now (output .entry)))
-        × (now (output .exit) ≡ outputAfter true (segmentFrame id (record { 0 = number }) (now (message .entry)) index) (now (output .entry))) ⌝ }
+    ensures { λ r. ⌜ (r ≡ written true (segmentFrame id number (now (message .entry)) index) (now (output .entry)))
+        × (now (output .exit) ≡ outputAfter true (segmentFrame id number (now (message .entry)) index) (now (output .entry))) ⌝ }
 {
     let from = segment_place(index);
     let to = from + segment_length(message.len() as u16, index);
@@ -56,17 +62,14 @@ pub fn write_segment(
     ensures { λ r. ⌜ (r ≡ written (isSegment (now (message .entry)) index) (segmentFrame id number (now (message .entry)) index) (now (output .entry)))
         × (now (output .exit) ≡ outputAfter (isSegment (now (message .entry)) index) (segmentFrame id number (now (message .entry)) index) (now (output .entry))) ⌝ }
 {
-    if message.len() < 1 {
-        return Written::WrongArgument;
-    }
-    if 1469 < message.len() {
+    if !octets::is_length(message.len()) {
         return Written::WrongArgument;
     }
     if (last_segment(message.len() as u16) as usize) < index {
         return Written::WrongArgument;
     }
     if index == 0 {
-        return put_start(id, number.0, message, output);
+        return put_start(id, number, message, output);
     }
-    put_continuation(id, number.0, message, index as u16, output)
+    put_continuation(id, number, message, index as u16, output)
 }

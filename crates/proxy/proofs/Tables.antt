@@ -14,7 +14,8 @@ use Rattle.octets.proofs.Cut.{length-map-up-to}
 use Rattle.octets.proofs.Tables.{by-table}
 use Rattle.octets.proofs.Tests.{cases, lt-not-le, not-both}
 use Rattle.octets.proofs.Writing.{writer-table}
-use Rattle.proxy.specs.Pieces.{isSize, isLength, isType, isCut, isPiece, lastPiece, pieceOctets, messagePieces, piecesCounted, countTold}
+use Rattle.octets.specs.Lengths.{isLength}
+use Rattle.proxy.specs.Pieces.{isSize, isType, isCut, isPiece, lastPiece, pieceOctets, messagePieces, piecesCounted, countTold}
 use Rattle.proxy.specs.Transfers.{isGood, isGoodHalf, isExpected, isLikeFirst, heldLength, topOf, typeOf, setConnected, connectionTold, added, joining, offered, pieceRead, told}
 use Rattle.proxy.specs.Tables.{isWrongCut, countRows, CountTable, WriteTable, isBad, connectionRows, ConnectionTable, isUnexpected, isUnlikeFirst, lengthAfter, pieceRows, PieceTable}
 use Rattle.proxy.specs.declared.HalfTransfer.{HalfTransfer}

@@ -4,6 +4,7 @@ use mathlib.Core.Bool.{Bool, _&&_, cond}
 use mathlib.Core.List.{List, [], _∷_, map}
 use lib.Dec.{leb, ltb, eqb}
 use lib.ListN.{length}
+use Rattle.octets.specs.Lengths.{isLength}
 use Rattle.octets.specs.Cut.{placeOf, lastOf, piece, upTo}
 use Rattle.octets.specs.Told.{Told, refused, answered}
 use Rattle.proxy.specs.declared.PieceCount.{PieceCount}
@@ -12,10 +13,6 @@ use Rattle.proxy.specs.declared.PieceCount.the-variants.{Pieces, WrongAr
 -- "size 20 to 514 counts that octet"
 abbrev pub isSize : ℕ → Bool
 isSize z = leb 20 z && leb z 514
-
--- "A message of n octets, 1 to 1,469"
-abbrev pub isLength : ℕ → Bool
-isLength n = leb 1 n && leb n 1469
 
 -- "the type, 0 to 3"
 abbrev pub isType : ℕ → Bool

@@ -6,7 +6,8 @@ use lib.Dec.{leb, eqb}
 use lib.ListN.{length, drop, getD}
 use Rattle.octets.specs.Parts.{write}
 use Rattle.octets.specs.Told.{Told, refused, answered}
-use Rattle.proxy.specs.Pieces.{isLength, isType}
+use Rattle.octets.specs.Lengths.{isLength}
+use Rattle.proxy.specs.Pieces.{isType}
 use Rattle.proxy.specs.declared.HalfTransfer.{HalfTransfer}
 use Rattle.proxy.specs.declared.HalfTransfer.the-variants.{Nothing, Held}
 use Rattle.proxy.specs.declared.Transfer.{Transfer}

@@ -35,10 +35,7 @@ pub fn is_good(transfer: Transfer) -> bool
                 if 3 < kind {
                     return false;
                 }
-                if length < 1 {
-                    return false;
-                }
-                return length <= 1469;
+                return octets::is_length(length as usize);
             }
             false
         }

@@ -1,4 +1,5 @@
 // Proxy transfer, reading: pieces put together again in a lent buffer.
+use octets::LONGEST_MESSAGE;
 use octets::octet_at;
 use proxy::HalfTransfer;
 use proxy::PieceAnswer;
@@ -97,10 +98,10 @@ fn join(half: HalfTransfer, top: u8, kind: u8, count: usize) -> PieceRead
     if is_expected(half, top) {
         if is_like_first(half, kind) {
             let held = held_length(half);
-            if 1469 < count {
+            if LONGEST_MESSAGE < count {
                 return disconnect_refused(PieceRefusal::TooLong);
             }
-            if 1469 < held + count {
+            if LONGEST_MESSAGE < held + count {
                 return disconnect_refused(PieceRefusal::TooLong);
             }
             return add(top, kind, (held + count) as u16);
@@ -127,7 +128,7 @@ fn offer(transfer: Transfer, piece: &[u8]) -> PieceRead
 fn judge(transfer: Transfer, room: usize, piece: &[u8]) -> PieceRead
     ensures { λ r. ⌜ r ≡ pieceRead transfer room (now (piece .entry)) ⌝ }
 {
-    if room != 1469 {
+    if room != LONGEST_MESSAGE {
         return refuse(transfer, PieceRefusal::WrongArgument);
     }
     if is_good(transfer) {

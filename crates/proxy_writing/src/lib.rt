@@ -18,10 +18,7 @@ fn is_cut(size: usize, length: usize) -> bool
     if 514 < size {
         return false;
     }
-    if length < 1 {
-        return false;
-    }
-    length <= 1469
+    octets::is_length(length)
 }
 
 fn last_piece(size: usize, length: usize) -> usize

@@ -3,7 +3,9 @@
 use libc::STDOUT_FILENO;
 use links::Answer;
 use links::Link;
+use octets::LONGEST_MESSAGE;
 use octets::Written;
+use station::AREA;
 use transactions::Socket;
 use transactions::TransactionNumber;
 
@@ -43,8 +45,8 @@ fn counted(tally: Tally, answer: Answer) -> Tally {
     after
 }
 
-fn id_of(socket: u8) -> u32 {
-    0x23AF5800 + socket as u32
+fn id_of(socket: Socket) -> u32 {
+    0x23AF5800 + socket.0 as u32
 }
 
 // A frame of so many octets comes in.
@@ -65,10 +67,10 @@ fn bring(tray: Tray, area: &mut [u8], frame: &[u8], length: usize) -> Tray {
 }
 
 // Opens a link, and its Ack comes in.
-fn open_link(tray: Tray, area: &mut [u8], socket: u8) -> Tray {
+fn open_link(tray: Tray, area: &mut [u8], socket: Socket) -> Tray {
     let links = tray.links;
     let tally = tray.tally;
-    let r = local_calls::open(links, Socket(socket), id_of(socket));
+    let r = local_calls::open(links, socket, id_of(socket));
     let after = r.links;
     let opening = Tray {
         links: after,
@@ -86,22 +88,23 @@ fn bring_twice(
     tray: Tray,
     area: &mut [u8],
     messages: &[u8],
-    socket: u8,
+    socket: Socket,
     number: TransactionNumber,
     index: usize,
 ) -> Tray {
     let mut frame = [0u8; 29];
-    let from = 1469 * (socket as usize);
-    if messages.len() < 13221 {
+    let place = socket.place();
+    if messages.len() < AREA {
         return tray;
     }
-    if 8 < socket {
+    if 8 <= place {
         return tray;
     }
+    let from = LONGEST_MESSAGE * place;
     let Written::Count(n) = pb_adv_writing::write_segment(
         id_of(socket),
         number,
-        &messages[from..from + 1469],
+        &messages[from..from + LONGEST_MESSAGE],
         index,
         &mut frame,
     ) else {
@@ -124,7 +127,7 @@ fn open_all(tray: Tray, area: &mut [u8]) -> Tray {
     let mut after = tray;
     let mut socket: u8 = 1;
     while socket <= 8 {
-        after = open_link(after, area, socket);
+        after = open_link(after, area, Socket(socket));
         socket += 1;
     }
     after
@@ -141,7 +144,7 @@ fn bring_row(
     let mut after = tray;
     let mut socket: u8 = 1;
     while socket <= 8 {
-        after = bring_twice(after, area, messages, socket, number, index);
+        after = bring_twice(after, area, messages, Socket(socket), number, index);
         socket += 1;
     }
     after
@@ -186,9 +189,9 @@ fn write_tally(tally: Tally) {
 }
 
 fn main() {
-    let mut area = [0u8; 11752];
-    // Socket 1's message stands at 1,469: place 0 is of no socket.
-    let mut messages = [0u8; 13221];
+    let mut area = [0u8; AREA];
+    // The messages stand as they will stand in the area.
+    let mut messages = [0u8; AREA];
     fill(&mut messages);
     let links = link_records::blank_links();
     let tally = Tally {
@@ -208,7 +211,7 @@ fn main() {
     );
     let after = bring_rounds(tray, &mut area, &messages);
     write_tally(after.tally);
-    if octet_parts::same_part(&area, 0, &messages, 1469, 11752) {
+    if octet_parts::same_part(&area, 0, &messages, 0, AREA) {
         io::write_all(STDOUT_FILENO, b"the area holds the messages\n");
     }
 }

@@ -1,23 +1,20 @@
--- How the line of an answer is put together, and that the front of a long line is read as the line is.
+-- How the line of an answer is put together.
 use Prim.Native.Nat.{ℕ, _+_, _*_, _<_, _≤_}
 use native.Mathlib.Nat.{zero-add}
 use native.Mathlib.Omega.{arith}
-use mathlib.Core.Bool.{true, false}
+use mathlib.Core.Bool.{true}
 use mathlib.Core.List.{List, [], _∷_, _++_, append-assoc}
-use mathlib.Core.Path.{_≡_, refl, sym, ap, _∙_}
-use lib.Dec.{leb}
-use lib.ListN.{length, take, set, length-append}
-use lib.Seq.{length-take-le, take-all, take-length}
-use borrow.Author.Tests.{leb-true, leb-false, le-leb, lt-leb}
+use mathlib.Core.Path.{_≡_, sym, ap, _∙_}
+use lib.ListN.{length, set, length-append}
+use lib.Seq.{take-length}
 use Rattle.octets.specs.Parts.{write, copied}
 use Rattle.octets.specs.Writing.{written, outputAfter}
 use Rattle.octets.specs.declared.Written.the-variants.{Count, WrongArgument}
-use Rattle.octets.proofs.Tests.{cases}
 use Rattle.octets.proofs.Parts.{copied-part, write-next, write-octet, write-length}
 use Rattle.octets.proofs.Writing.{written-fits, output-fits, output-short}
 use Rattle.hex.specs.Hex.{textOf, encodedOutput}
 use Rattle.hex.proofs.Laws.{length-text, encoded-fits}
-use Rattle.script.specs.Script.{isLine, argumentsRead, argumentsAfter, answerLine}
+use Rattle.script.specs.Script.{answerLine}
 
 module _ (head values : List ℕ) where
   pub answer-long : length (answerLine head values) ≡ length head + 2 * length values + 1
@@ -51,20 +48,3 @@ module _ (head values : List ℕ) where
           rw (head-put, text-put) (rw (zero-add, n) at ends)
           ∙ ap (write out 0) (append-assoc head (textOf values) (10 ∷ []))
           ∙ sym (output-fits (answerLine head values) out (omega (arith, answer-long)))
-
--- ---- a long line
-
--- a line of more than 8,192 characters is none
-long-none : (line : List ℕ) → 8192 < length line → isLine line ≡ false
-unfolding isLine
-long-none line h = rw (le-leb 2 (length line) (omega arith), lt-leb (length line) 8192 h)
-
--- so the first 8,193 characters of a line, which is all that the program holds, are read as the line is
-pub front-does-the-same : (line output : List ℕ)
-    → (argumentsRead (take 8193 line) output ≡ argumentsRead line output) × (argumentsAfter (take 8193 line) output ≡ argumentsAfter line output)
-unfolding argumentsRead argumentsAfter
-front-does-the-same line output =
-    cases (leb (length line) 8193)
-    (λ e. rw (take-all 8193 line (leb-true (length line) 8193 e)) (refl, refl))
-    (λ e. let long = leb-false (length line) 8193 e in
-    rw (long-none line (omega arith), long-none (take 8193 line) (omega (arith, length-take-le 8193 line (omega arith)))) (refl, refl))

@@ -2,14 +2,16 @@
 use Prim.Native.Nat.{ℕ, _+_, _≤_}
 use native.Mathlib.Omega.{arith}
 use mathlib.Core.List.{List}
-use mathlib.Core.Path.{_≡_, sym}
+use mathlib.Core.Path.{_≡_, ap}
 use lib.ListN.{length}
 use Rattle.octets.specs.Parts.{write}
+use Rattle.octets.specs.declared.Written.{Written}
 use Rattle.octets.proofs.Tests.{cases}
+use Rattle.octets.proofs.Writing.{written-fits, output-fits}
 use Rattle.transactions.specs.declared.TransactionNumber.{TransactionNumber}
-use Rattle.hex_lines.specs.Lines.{lineText, lineNext, lineWritten, lineOutput}
+use Rattle.hex_lines.specs.Lines.{lineText, lineNext, withNext, lineWritten, lineOutput}
 use Rattle.hex_lines.specs.declared.LineWritten.the-variants.{Text, OutputTooShort}
-use Rattle.hex_lines.proofs.Laws.{enough, text-fits}
+use Rattle.hex_lines.proofs.Promises.{enough}
 use Rattle.lines.specs.Streams.{isWhole}
 use Rattle.lines.proofs.Laws.{behind, behind-long}
 use Rattle.segment_lines.specs.declared.Progress.{Progress}
@@ -26,7 +28,7 @@ module _ (number : TransactionNumber) (held output : List ℕ) (at : ℕ) (fits 
   room = omega (arith, short, behind-long output at (omega arith))
 
   pub text-written : lineWritten number held (behind output at) ≡ Text (length text) (lineNext number held)
-  text-written = sym (text-fits text (behind output at) (lineNext number held) room .0)
+  text-written = ap (λ (w : Written). withNext w (lineNext number held)) (written-fits text (behind output at) room)
 
   pub text-never : lineWritten number held (behind output at) ≡ OutputTooShort → ⊥
   text-never e = let z : _≡_ {A = ℕ} 0 1 = cc text-written in omega arith
@@ -35,7 +37,7 @@ module _ (number : TransactionNumber) (held output : List ℕ) (at : ℕ) (fits 
   text-counts e = (cc text-written, cc text-written)
 
   pub text-output : lineOutput number held (behind output at) ≡ write (behind output at) 0 text
-  text-output = sym (text-fits text (behind output at) (lineNext number held) room .1)
+  text-output = output-fits text (behind output at) room
 
   pub text-room : at + length text ≤ length output
   text-room = omega (arith, short)

@@ -12,7 +12,7 @@ use Rattle.octets.proofs.Tests.{cases}
 use Rattle.transactions.specs.declared.TransactionNumber.{TransactionNumber}
 use Rattle.line_buffer.proofs.Promises.{front-more}
 use Rattle.hex_lines.specs.Lines.{lineText, lineNext}
-use Rattle.hex_lines.proofs.Laws.{enough, front-does-the-same}
+use Rattle.hex_lines.proofs.Promises.{enough, front-does-the-same}
 use Rattle.lines.specs.Streams.{nothingRead, pieceIn, withWaiting, EndWaits, isWhole}
 use Rattle.lines.specs.declared.Streams.{Streams}
 use Rattle.lines.specs.Lines.{Reading, Follows}

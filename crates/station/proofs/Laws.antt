@@ -29,7 +29,7 @@ use Rattle.pb_adv.specs.declared.Parsed.the-variants as P
 use Rattle.links.specs.Marks.{isMarked, withMark, allMarked}
 use Rattle.links.specs.Links.{sends, isLast, find}
 use Rattle.links.specs.Good.{good, goodHalf, goodAs, goodLink, atRest, isNothing, isEmpty}
-use Rattle.links.specs.Segments.{OneLink, marked, entered, offered, onHalf, segmentStep}
+use Rattle.links.specs.Segments.{OneLink, marked, entered, offered, onHalf, segmentStep, completed}
 use Rattle.links.specs.Station.{Station, noLink, getLink, putLink, acknowledgementStep, frameStep, atSocket, onFrame, received}
 use Rattle.links.proofs.Keep.{message-out, open-out}
 use Rattle.links.proofs.Lens.{found-at, good-out, all-at, put-get}
@@ -47,17 +47,14 @@ use Rattle.links.specs.declared.Refusal.the-variants as R
 use Rattle.links.specs.declared.Answer.{Answer}
 use Rattle.links.specs.declared.Answer.the-variants as A
 use Rattle.station.specs.Calls.{stationOf, receiving, oneLink, steppedOf, receivedOf}
-use Rattle.station.specs.Steps.{linkRefused, completed, compared, EnterAsks, segmentTaken, steppedAt, atFound, NoSegment, otherStep, otherAt, otherFrame, InRange}
+use Rattle.station.specs.Steps.{linkRefused, compared, EnterAsks, segmentTaken, steppedAt, atFound, NoSegment, otherStep, otherAt, otherFrame, InRange}
 
 -- ---- a segment that goes to a message
 
 module _ (x : OneLink) (h : HalfMessage) (k : ℕ) (d : List ℕ) where
-  pub entered-is : steppedOf (entered x h k d) ≡ completed (x .link) (marked h k) (write (x .part) (segmentPlace k) d)
-  unfolding entered completed
-  entered-is =
-      cases (allMarked (segN (h .length)) (withMark (h .marks) k))
-      (λ e. cases (eqb (checkOctet (take (h .length) (write (x .part) (segmentPlace k) d))) (h .check)) (λ c. rw (e, c)) (λ c. rw (e, c)))
-      (λ e. rw e)
+  pub entered-is : entered x h k d ≡ completed (x .link) (marked h k) (write (x .part) (segmentPlace k) d)
+  unfolding entered
+  entered-is = refl
 
   pub entered-part : entered x h k d .1 .part ≡ write (x .part) (segmentPlace k) d
   unfolding entered

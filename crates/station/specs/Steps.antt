@@ -3,24 +3,19 @@ use Prim.Native.Nat.{ℕ, _+_, _≤_}
 use mathlib.Core.Bool.{true, cond}
 use mathlib.Core.List.{List, []}
 use mathlib.Core.Path.{_≡_}
-use lib.Dec.{eqb}
-use lib.ListN.{length, take}
+use lib.ListN.{length}
 use Rattle.octets.specs.Parts.{part, samePart}
-use Rattle.fcs.specs.Fcs.{checkOctet}
 use Rattle.pb_adv.specs.Promises.{Fits}
 use Rattle.transactions.specs.Segments.{segN, segmentPlace, segmentLength}
 use Rattle.pb_adv.specs.declared.SegmentHeader.{SegmentHeader}
 use Rattle.pb_adv.specs.declared.Segment.{Segment}
 use Rattle.pb_adv.specs.declared.Parsed.{Parsed}
 use Rattle.pb_adv.specs.declared.Parsed.the-variants as P
-use Rattle.links.specs.Marks.{allMarked}
-use Rattle.links.specs.Links.{withReceived}
 use Rattle.links.specs.Good.{good}
 use Rattle.links.specs.Segments.{OneLink, begun, entered, offered, onHalf, segmentStep}
 use Rattle.links.specs.Station.{Station, frameStep, atSocket, onFrame}
 use Rattle.links.specs.declared.Side.the-variants.{Provisioner}
 use Rattle.links.specs.declared.LinkState.{LinkState}
-use Rattle.links.specs.declared.LastDelivered.the-variants as L
 use Rattle.links.specs.declared.HalfMessage.{HalfMessage}
 use Rattle.links.specs.declared.HalfReceived.{HalfReceived}
 use Rattle.links.specs.declared.HalfReceived.the-variants as H
@@ -50,15 +45,6 @@ abbrev pub steppedAt : List Link → ℕ → Stepped → Received
 steppedAt links s r = stored links s (r .link) (r .answer)
 
 -- ---- a segment that goes to a message
-
--- the link and the answer once the message's octets and marks are p and those of h
-unfoldable pub completed : Link → HalfMessage → List ℕ → Stepped
-completed link h p =
-    cond (allMarked (segN (h .length)) (h .marks))
-    (cond (eqb (checkOctet (take (h .length) p)) (h .check))
-    (record { link = withReceived link (L.Number (h .number)) H.Nothing; answer = A.Delivered (h .length) (h .number) })
-    (record { link = withReceived link (link .last) H.Nothing; answer = A.Refused R.WrongCheck }))
-    (record { link = withReceived link (link .last) (H.Message h); answer = A.Kept })
 
 -- the answer to a segment k that is in already
 unfoldable pub compared : ℕ → List ℕ → List ℕ → ℕ → ℕ → Answer

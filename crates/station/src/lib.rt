@@ -14,6 +14,7 @@ use links::Link;
 use links::LinkState;
 use links::Refusal;
 use links::Side;
+use octets::LONGEST_MESSAGE;
 use pb_adv::FrameRefusal;
 use pb_adv::Parsed;
 use pb_adv::Segment;
@@ -25,14 +26,17 @@ ghost use mathlib.Core.Path.{_≡_};
 ghost use lib.ListN.{length};
 ghost use Rattle.pb_adv.specs.declared.SegmentHeader.the-variants.{Start, Continuation};
 ghost use Rattle.links.specs.Links.{blank, withState, withReceived, find};
-ghost use Rattle.links.specs.Segments.{begun, marked};
+ghost use Rattle.links.specs.Segments.{begun, marked, completed};
 ghost use Rattle.links.specs.Station.{acknowledgementStep, frameRefusal};
 ghost use Rattle.links.specs.declared.LinkState.the-variants.{Opening, Open};
 ghost use Rattle.links.specs.declared.Found.the-variants.{At};
 ghost use Rattle.links.specs.declared.Answer.the-variants.{Opened, Closed};
 ghost use Rattle.links.specs.declared.Side.the-variants.{Provisioner};
 ghost use Rattle.station.specs.Calls.{receiving, receivedOf, oneLink, steppedOf};
-ghost use Rattle.station.specs.Steps.{steppedTo, linkRefused, completed, compared, enteredFrom, offeredFrom, begunFrom, OfferAsks, EnterAsks, SegmentAsks, byHeader, segmentSteps, segmentTaken, NoSegment, otherStep, otherAt, otherFrame, SocketAsks, atFound};
+ghost use Rattle.station.specs.Steps.{steppedTo, linkRefused, compared, enteredFrom, offeredFrom, begunFrom, OfferAsks, EnterAsks, SegmentAsks, byHeader, segmentSteps, segmentTaken, NoSegment, otherStep, otherAt, otherFrame, SocketAsks, atFound};
+
+// The octets of the area: those of a longest message for each socket.
+pub const AREA: usize = 8 * LONGEST_MESSAGE;
 
 // One record after a step of its link, and the answer.
 pub struct Stepped {
@@ -129,7 +133,7 @@ fn mark(message: HalfMessage, index: u16) -> HalfMessage
 // The link after the message got a segment: delivered, refused by its check octet, or kept.
 fn complete(link: Link, message: HalfMessage, part: &[u8]) -> Stepped
     requires { ⌜ message .length ≤ length (now part) ⌝ }
-    ensures { λ r. ⌜ r ≡ completed link message (now (part .entry)) ⌝ }
+    ensures { λ r. ⌜ r ≡ steppedOf (completed link message (now (part .entry))) ⌝ }
 {
     let number = message.number;
     let length = message.length;
@@ -438,10 +442,10 @@ fn at_link(links: [Link; 8], id: u32, parsed: Parsed) -> Received
         return refuse_call(links, Refusal::UnknownLink);
     };
     let link = link_at(links, place);
-    let stepped = step_frame(link, parsed);
-    let after = stepped.link;
-    let answer = stepped.answer;
-    store(links, place, after, answer)
+    let step = step_frame(link, parsed);
+    let next = step.link;
+    let answer = step.answer;
+    store(links, place, next, answer)
 }
 
 // A frame of another kind; a segment does not come here.
@@ -474,8 +478,13 @@ fn at_socket(
     // One copy of the records, in which the record is read and stored.
     let mut after = links;
     let link = after[place];
-    let base = 1469 * place;
-    let stepped = take_segment(link, segment, &mut area[base..base + 1469], frame);
+    let base = LONGEST_MESSAGE * place;
+    let stepped = take_segment(
+        link,
+        segment,
+        &mut area[base..base + LONGEST_MESSAGE],
+        frame,
+    );
     let next = stepped.link;
     let answer = stepped.answer;
     after[place] = next;
@@ -498,12 +507,12 @@ fn receive_segment(links: [Link; 8], segment: Segment, area: &mut [u8], frame: &
     at_socket(links, place, segment, area, frame)
 }
 
-// Receives a frame. The area has 11,752 octets, 1,469 for each socket.
+// Receives a frame. The area has 11,752 octets, AREA, 1,469 for each socket.
 pub fn receive(links: [Link; 8], area: &mut [u8], frame: &[u8]) -> Received
     ensures { λ r. ⌜ (r ≡ receivedOf (receiving links (now (area .entry)) (now (frame .entry))))
         × (now (area .exit) ≡ receiving links (now (area .entry)) (now (frame .entry)) .1 .area) ⌝ }
 {
-    if area.len() != 11752 {
+    if area.len() != AREA {
         return refuse_call(links, Refusal::WrongArgument);
     }
     if link_state::is_good(Side::Provisioner, links) {

@@ -6,16 +6,17 @@ use octets::Written;
 use provisioning::Capabilities;
 use transactions::Socket;
 use transactions::TransactionNumber;
+ghost use mathlib.Core.Bool.{true};
 ghost use mathlib.Core.Path.{_≡_};
 ghost use Prim.Native.Nat.{_≤_};
 ghost use lib.ListN.{length};
-ghost use Rattle.line_fields.specs.Lines.{textWritten, textOutput};
+ghost use Rattle.octets.specs.Writing.{written, outputAfter};
 ghost use Rattle.stock_record.specs.Texts.{headerLine, recordLine};
 
 // The first line of all.
 pub fn write_header(output: &mut [u8]) -> Written
-    ensures { λ r. ⌜ (r ≡ textWritten headerLine (now (output .entry)))
-        × (now (output .exit) ≡ textOutput headerLine (now (output .entry)))
+    ensures { λ r. ⌜ (r ≡ written true headerLine (now (output .entry)))
+        × (now (output .exit) ≡ outputAfter true headerLine (now (output .entry)))
         × (length headerLine ≤ 231) ⌝ }
 {
     write_text(
@@ -32,8 +33,8 @@ pub fn write_record(
     capabilities: Capabilities,
     output: &mut [u8],
 ) -> Written
-    ensures { λ r. ⌜ (r ≡ textWritten (recordLine socket id number capabilities) (now (output .entry)))
-        × (now (output .exit) ≡ textOutput (recordLine socket id number capabilities) (now (output .entry)))
+    ensures { λ r. ⌜ (r ≡ written true (recordLine socket id number capabilities) (now (output .entry)))
+        × (now (output .exit) ≡ outputAfter true (recordLine socket id number capabilities) (now (output .entry)))
         × (length (recordLine socket id number capabilities) ≤ 231) ⌝ }
 {
     let fields = [

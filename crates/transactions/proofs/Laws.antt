@@ -11,7 +11,7 @@ use Rattle.octets.proofs.Tests.{both-hold}
 use Rattle.transactions.specs.Numbers.{isSocket}
 use Rattle.transactions.specs.declared.Socket.{Socket}
 use Rattle.transactions.specs.Segments.{segN, segmentPlace, segmentLength, segment}
-use Rattle.transactions.specs.Promises.{number, NumbersInTurn}
+use Rattle.transactions.specs.Promises.{number, NumbersInTurn, LeastSegN}
 
 pub numbers-in-turn : NumbersInTurn
 numbers-in-turn = record {
@@ -20,12 +20,14 @@ numbers-in-turn = record {
   device-again = refl;
 }
 
--- SegN is the least number with L at most 20 + 23 SegN
 pub segN-enough : (n : ℕ) → n ≤ 20 + 23 * segN n
 segN-enough n = last-enough 20 23 n (omega arith)
 
 pub segN-least : (n k : ℕ) → n ≤ 20 + 23 * k → segN n ≤ k
 segN-least n k h = last-least 20 23 n k (omega arith) h
+
+pub least-segN : LeastSegN
+least-segN = record { enough = segN-enough; least = segN-least }
 
 -- at most 63 for a message that is not too long
 pub segN-small : (n : ℕ) → n ≤ 1469 → segN n ≤ 63

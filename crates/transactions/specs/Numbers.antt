@@ -1,5 +1,5 @@
 -- Transaction numbers and sockets, which are separate counts.
-use Prim.Native.Nat.{ℕ, _+_, _*_, _/_, _%_}
+use Prim.Native.Nat.{ℕ, _+_, _*_, _-_, _/_, _%_}
 use mathlib.Core.Bool.{Bool, _&&_}
 use lib.Dec.{leb}
 use Rattle.transactions.specs.declared.TransactionNumber.{TransactionNumber}
@@ -12,3 +12,7 @@ numberAfter t = record { 0 = 128 * (t .0 / 128) + (t .0 + 1) % 128 }
 -- whether a socket is one of so many, counted from 1
 abbrev pub isSocket : Socket → ℕ → Bool
 isSocket s count = leb 1 (s .0) && leb (s .0) count
+
+-- the place of a socket, which counts from 1, among the records and the parts, which count from 0
+abbrev pub socketPlace : Socket → ℕ
+socketPlace s = s .0 - 1

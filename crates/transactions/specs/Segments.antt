@@ -1,16 +1,10 @@
--- The segments of a message: "L is 1 to 1,469. Segment 0 has up to 20 octets, the others up to 23, all full but the last."
+-- The segments of a message: "Segment 0 has up to 20 octets, the others up to 23, all full but the last."
 use Prim.Native.Nat.{ℕ}
-use mathlib.Core.Bool.{Bool, _&&_}
 use mathlib.Core.List.{List}
-use lib.Dec.{leb}
 use lib.ListN.{length}
 use Rattle.octets.specs.Cut.{placeOf, lastOf, sizeOf, piece}
 
--- L is in range
-abbrev pub isLength : ℕ → Bool
-isLength n = leb 1 n && leb n 1469
-
--- SegN: the least number with L at most 20 + 23 SegN (`segN-enough`, `segN-least`)
+-- SegN: the least number with L at most 20 + 23 SegN (`least-segN`)
 abbrev pub segN : ℕ → ℕ
 segN n = lastOf 20 23 n
 

@@ -15,9 +15,10 @@ pub fn segment_place(index: u16) -> usize
     ensures { λ r. ⌜ r ≡ segmentPlace index ⌝ }
 {
     if index == 0 {
-        return 0;
+        0
+    } else {
+        20 + 23 * (index as usize - 1)
     }
-    20 + 23 * (index as usize - 1)
 }
 
 // The length of a segment of a message of so many octets; 0 past its end.

@@ -43,7 +43,7 @@ same-length c = search needs
 
 returns : tie.Need-returns
 unfolding write
-returns c = sets-eq (frameOctets (c .args .id) (c .args .number) (c .args .kind) []) (c .args .output .now) 0 (omega arith)
+returns c = sets-eq (frameOctets (c .args .id) (c .args .number .0) (c .args .kind) []) (c .args .output .now) 0 (omega arith)
 
 pub put-head-spec : {M : Type 1} → statement M
 put-head-spec =

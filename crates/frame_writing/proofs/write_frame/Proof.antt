@@ -55,18 +55,18 @@ returns-4 c =
     let b = c .before .before .before .before .before .before in
     let h = b .before .before .before .before in
     let a = h .before .before .before .before .before .before .before .before .args in
-    let head = frameOctets (a .id) (a .number) (a .kind) [] in
+    let head = frameOctets (a .id) (a .number .0) (a .kind) [] in
     let x = a .fields .now in
     let y = a .octets .now in
     let out = a .output .now in
     let n = length-append x y in
     let fits : 6 + length x + length y ≤ length out = omega arith in
-    let long : length (frameOctets (a .id) (a .number) (a .kind) (x ++ y)) ≡ 6 + length x + length y = omega arith in (
+    let long : length (frameOctets (a .id) (a .number .0) (a .kind) (x ++ y)) ≡ 6 + length x + length y = omega arith in (
       ap Count (sym long) ∙ sym (written-fits _ out (omega arith)),
       c .before .before .copy2 .ensures .1
           ∙ rw (b .copy .ensures .1, h .put-head .ensures)
           (rw (copied-next out 0 head x 6 (omega arith) (omega arith), copied-next out 0 (head ++ x) y (6 + length x) (omega arith) (omega arith))
-          (sym (output-fits (frameOctets (a .id) (a .number) (a .kind) (x ++ y)) out (omega arith)))),
+          (sym (output-fits (frameOctets (a .id) (a .number .0) (a .kind) (x ++ y)) out (omega arith)))),
     )
 
 pub write-frame-spec : {M : Type 1} → statement M

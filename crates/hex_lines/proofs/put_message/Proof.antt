@@ -2,13 +2,15 @@
 use Prim.Native.Nat.{suc, _+_, _*_, _-_, _≤_}
 use borrow.Author.Needs.{needs}
 use lib.ListN.{length}
-use mathlib.Core.Path.{_≡_, refl, sym, _∙_}
+use mathlib.Core.Path.{_≡_, refl, sym, ap, _∙_}
 use native.Mathlib.Omega.{arith}
-use Rattle.hex_lines.proofs.Laws.{text-fits, text-short, no-lines, all-lines, lines-turn, lines-within, text-long}
-use Rattle.hex_lines.specs.Lines.{messageText}
+use Rattle.hex_lines.proofs.Laws.{no-lines, all-lines, lines-turn, lines-within, text-long}
+use Rattle.hex_lines.specs.Lines.{messageText, withNext}
 use Rattle.hex_lines.specs.Steps.{segmentLine, firstLines}
 use Rattle.octets.proofs.Parts.{write-nothing}
 use Rattle.octets.specs.Parts.{write}
+use Rattle.octets.specs.declared.Written.{Written}
+use Rattle.octets.proofs.Writing.{written-fits, output-fits, output-short}
 use Rattle.transactions.specs.Numbers.{numberAfter}
 use Rattle.transactions.specs.Segments.{segN}
 use Rattle.hex_lines.proofs.put_message.Statement.{statement}
@@ -70,7 +72,8 @@ add-length-4 c = search needs
 returns : tie.Need-returns Inv-loop μ-loop
 returns c =
     let a = c .before .before .before .before .args in
-    text-short (messageText (a .number) (a .message .now)) (a .output .now) (numberAfter (a .number)) (omega (arith, long (c .before)))
+    let short = output-short (messageText (a .number) (a .message .now)) (a .output .now) (omega (arith, long (c .before))) in
+    (ap (λ (w : Written). withNext w (numberAfter (a .number))) (short .0), short .1)
 
 loop-holds : tie.Need-loop-holds Inv-loop μ-loop
 loop-holds c =
@@ -110,8 +113,9 @@ returns-2 c =
     let p = c .before .before .before .before in
     let a = p .before .before .before .args in
     let done : l .index ≡ suc (segN (length (a .message .now))) = omega (arith, p .last-segment .ensures) in
-    let fits = text-fits (messageText (a .number) (a .message .now)) (a .output .now) (numberAfter (a .number)) (omega (arith, long p)) in
-    (rw (c .next .ensures, ← (long p)) (fits .0), l .inv .3 ∙ rw (done, all-lines (a .number) (a .message .now)) (fits .1))
+    let text = messageText (a .number) (a .message .now) in
+    let fits : length text ≤ length (a .output .now) = omega (arith, long p) in
+    (rw (c .next .ensures, ← (long p), written-fits text (a .output .now) fits), l .inv .3 ∙ rw (done, all-lines (a .number) (a .message .now)) (sym (output-fits text (a .output .now) fits)))
 
 pub put-message-spec : {M : Type 1} → statement M
 put-message-spec =

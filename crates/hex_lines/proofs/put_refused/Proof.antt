@@ -3,13 +3,14 @@ use borrow.Author.Needs.{needs}
 use lib.Dec.{leb}
 use lib.ListN.{length}
 use mathlib.Core.Path.{_≡_, sym, _∙_}
-use Rattle.hex_lines.proofs.Laws.{refused-fits, refused-copied}
-use Rattle.hex_lines.specs.Lines.{textWritten}
+use Rattle.octets.specs.Writing.{written}
+use Rattle.octets.proofs.Writing.{copy-fits, copy-writes}
+use Rattle.hex_lines.specs.Lines.{refusedText}
 use Rattle.hex_lines.proofs.put_refused.Statement.{statement}
 use Rattle.hex_lines.proofs.put_refused.Tie as tie
 
 fits : (c : tie.After-copy) → leb 4 (length (c .before .before .before .before .args .output .now)) ≡ c .copy .result
-fits c = rw (← (refused-fits (c .before .before .before .before .args .output .now))) (sym (c .copy .ensures .0))
+fits c = sym (copy-fits refusedText (c .before .before .before .before .args .output .now)) ∙ sym (c .copy .ensures .0)
 
 slice-aggregate-copy : tie.Need-slice-aggregate-copy
 slice-aggregate-copy c = search needs
@@ -21,19 +22,19 @@ same-length : tie.Need-same-length
 same-length c = search needs
 
 returns : tie.Need-returns
-unfolding textWritten
+unfolding written
 returns c =
     let p = c .before .before .before in
-    (rw (fits p, c .if1 .taken), p .copy .ensures .1 ∙ refused-copied _)
+    (rw (fits p, c .if1 .taken), p .copy .ensures .1 ∙ copy-writes refusedText _)
 
 same-length-2 : tie.Need-same-length-2
 same-length-2 c = search needs
 
 returns-2 : tie.Need-returns-2
-unfolding textWritten
+unfolding written
 returns-2 c =
     let p = c .before .before .before in
-    (rw (fits p, c .if1 .left), p .copy .ensures .1 ∙ refused-copied _)
+    (rw (fits p, c .if1 .left), p .copy .ensures .1 ∙ copy-writes refusedText _)
 
 pub put-refused-spec : {M : Type 1} → statement M
 put-refused-spec =

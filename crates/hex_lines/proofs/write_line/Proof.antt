@@ -9,11 +9,12 @@ use mathlib.Core.List.{List, [], _∷_}
 use mathlib.Core.Path.{_≡_, sym, ap, _∙_, subst}
 use native.Mathlib.Omega.{arith}
 use types.Run.{OneOf, miss}
+use Rattle.octets.specs.Writing.{written, outputAfter}
 use Rattle.hex.proofs.Decoded.{the-type}
 use Rattle.hex.specs.Hex.{octetsOf, decodedOf}
 use Rattle.hex.specs.declared.Decoded.the-variants.{Octets}
 use Rattle.hex_lines.proofs.Laws.{read-none, read-nothing, read-message, read-count, read-front}
-use Rattle.hex_lines.specs.Lines.{isMessage, lineText, lineNext, textWritten, textOutput}
+use Rattle.hex_lines.specs.Lines.{isMessage, lineText, lineNext}
 use Rattle.hex_lines.proofs.write_line.Statement.{statement}
 use Rattle.hex_lines.proofs.write_line.Tie as tie
 
@@ -57,7 +58,7 @@ same-length : tie.Need-same-length
 same-length c = search needs
 
 returns : tie.Need-returns
-unfolding lineText lineNext textWritten textOutput
+unfolding lineText lineNext written outputAfter
 returns c =
     rw (none (c .before .before .before .before)) (c .before .before .put-refused .ensures)
 
@@ -68,7 +69,7 @@ same-length-2 : tie.Need-same-length-2
 same-length-2 c = search needs
 
 returns-2 : tie.Need-returns-2
-unfolding lineText lineNext textWritten textOutput
+unfolding lineText lineNext written outputAfter
 returns-2 c =
     rw (empty (c .before .before .before .before)) (c .before .before .put-refused2 .ensures)
 
@@ -87,7 +88,7 @@ same-length-3 : tie.Need-same-length-3
 same-length-3 c = search needs
 
 returns-3 : tie.Need-returns-3
-unfolding lineText lineNext textWritten textOutput
+unfolding lineText lineNext written outputAfter
 returns-3 c =
     let p = c .before .before .before .before .before in
     rw (full p) (rw (front (p .before)) at (c .before .before .put-message .ensures))

@@ -10,6 +10,9 @@ peer-of-requires c κs = search needs
 is-sent-by-requires : tie.Need-is-sent-by-requires
 is-sent-by-requires c κs = search needs
 
+cast-is-length : tie.Need-cast-is-length
+cast-is-length c = search needs
+
 is-length-requires : tie.Need-is-length-requires
 is-length-requires c κs = search needs
 
@@ -72,6 +75,7 @@ good-message-spec =
     (tie.spec
     peer-of-requires
     is-sent-by-requires
+    cast-is-length
     is-length-requires
     is-last-requires
     good-marks-requires

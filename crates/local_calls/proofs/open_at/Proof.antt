@@ -1,14 +1,11 @@
--- The tests in the order of `localOpen`.
+-- The tests of `openAt`, in their order.
 use borrow.Author.Needs.{needs}
-use lib.ListN.{length}
-use mathlib.Core.Path.{_∙_, _≡_, sym}
-use Rattle.links.specs.Station.{localOpen}
-use Rattle.transactions.proofs.Laws.{socket-in}
+use mathlib.Core.Path.{_≡_, sym, _∙_}
 use Rattle.local_calls.proofs.open_at.Statement.{statement}
 use Rattle.local_calls.proofs.open_at.Tie as tie
 
-place-of-requires : tie.Need-place-of-requires
-place-of-requires c κs = search needs
+place-requires : tie.Need-place-requires
+place-requires c κs = search needs
 
 link-at-requires : tie.Need-link-at-requires
 link-at-requires c κs = search needs
@@ -20,10 +17,9 @@ refuse-call-requires : tie.Need-refuse-call-requires
 refuse-call-requires c κs = search needs
 
 returns : tie.Need-returns
-unfolding localOpen
 returns c =
-    let n : length (c .before .before .before .before .before .args .links) ≡ 8 = search needs in
-    simp (n, socket-in (c .before .before .before .before .before .args .socket) 8 (c .before .before .before .before .before .pre .low) (c .before .before .before .before .before .pre .high), c .before .before .before .before .before .pre .state, ← (c .before .before .before .before .place-of .ensures .0), ← (c .before .before .before .link-at .ensures), ← (c .before .before .is-in-use .ensures), c .before .if1 .taken, c .refuse-call .ensures)
+    let d = c .before in
+    simp (← (d .before .before .before .place .ensures), ← (d .before .before .link-at .ensures), ← (d .before .is-in-use .ensures), d .if1 .taken, c .refuse-call .ensures)
 
 find-link-requires : tie.Need-find-link-requires
 find-link-requires c κs = search needs
@@ -44,24 +40,22 @@ store-requires : tie.Need-store-requires
 store-requires c κs = search needs
 
 returns-2 : tie.Need-returns-2
-unfolding localOpen
 returns-2 c =
-    let n : length (c .before .before .before .before .before .before .before .before .args .links) ≡ 8 = search needs in
+    let d = c .before .before .before .before in
     let f = sym (c .before .before .before .find-link .ensures) ∙ c .before .enum-told .given .1 in
-    simp (n, socket-in (c .before .before .before .before .before .before .before .before .args .socket) 8 (c .before .before .before .before .before .before .before .before .pre .low) (c .before .before .before .before .before .before .before .before .pre .high), c .before .before .before .before .before .before .before .before .pre .state, ← (c .before .before .before .before .before .before .before .place-of .ensures .0), ← (c .before .before .before .before .before .before .link-at .ensures), ← (c .before .before .before .before .before .is-in-use .ensures), c .before .before .before .before .if1 .left, f, c .refuse-call2 .ensures)
+    simp (← (d .before .before .before .place .ensures), ← (d .before .before .link-at .ensures), ← (d .before .is-in-use .ensures), d .if1 .left, f, c .refuse-call2 .ensures)
 
 returns-3 : tie.Need-returns-3
-unfolding localOpen
 returns-3 c =
-    let n : length (c .before .before .before .before .before .before .before .before .before .args .links) ≡ 8 = search needs in
+    let d = c .before .before .before .before .before in
     let f = sym (c .before .before .before .before .find-link .ensures) ∙ c .before .before .enum-told2 .given .1 in
-    simp (n, socket-in (c .before .before .before .before .before .before .before .before .before .args .socket) 8 (c .before .before .before .before .before .before .before .before .before .pre .low) (c .before .before .before .before .before .before .before .before .before .pre .high), c .before .before .before .before .before .before .before .before .before .pre .state, ← (c .before .before .before .before .before .before .before .before .place-of .ensures .0), ← (c .before .before .before .before .before .before .before .link-at .ensures), ← (c .before .before .before .before .before .before .is-in-use .ensures), c .before .before .before .before .before .if1 .left, f, c .store .ensures, c .before .blank-with .ensures)
+    simp (← (d .before .before .before .place .ensures), ← (d .before .before .link-at .ensures), ← (d .before .is-in-use .ensures), d .if1 .left, f, c .store .ensures, c .before .blank-with .ensures)
 
 pub open-at-spec : {M : Type 1} → statement M
 open-at-spec =
     tie.close
     (tie.spec
-    place-of-requires
+    place-requires
     link-at-requires
     is-in-use-requires
     refuse-call-requires

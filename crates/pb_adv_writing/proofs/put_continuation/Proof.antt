@@ -56,7 +56,7 @@ unfolding piece
 returns c =
     let d = c .before .before .before .before .before .before in
     let a = d .before .before .before .before .args in
-    rw (continuation-frame (a .id) (record { 0 = a .number }) (a .message .now) (a .index) (d .before .before .before .before .pre .0))
+    rw (continuation-frame (a .id) (a .number) (a .message .now) (a .index) (d .before .before .before .before .pre .0))
     (rw (add-sub-cancel-left, d .segment-length .ensures, d .before .segment-place .ensures) at (c .before .before .write-frame .ensures))
 
 pub put-continuation-spec : {M : Type 1} → statement M

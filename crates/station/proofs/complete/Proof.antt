@@ -3,7 +3,6 @@ use borrow.Author.Needs.{needs}
 use borrow.Author.Tests.{eq-eqb, ne-eqb}
 use lib.Seq.{length-take-le}
 use mathlib.Core.Path.{sym}
-use Rattle.station.specs.Steps.{completed}
 use Rattle.station.proofs.complete.Statement.{statement}
 use Rattle.station.proofs.complete.Tie as tie
 
@@ -29,21 +28,36 @@ after-segment-requires : tie.Need-after-segment-requires
 after-segment-requires c κs = search needs
 
 returns : tie.Need-returns
-unfolding completed
-returns c = simp (c .after-segment .ensures, ← (c .before .before .before .before .before .before .before .last-segment .ensures), ← (c .before .before .before .before .before .before .all-marked .ensures), c .before .before .before .before .before .if1 .taken, ← (c .before .before .before .check-octet .ensures), eq-eqb _ _ (c .before .if2 .taken))
+returns c =
+    let d = c .before .before .before .before .before in
+    simp (
+      c .after-segment .ensures,
+      ← (d .before .before .last-segment .ensures),
+      ← (d .before .all-marked .ensures),
+      d .if1 .taken,
+      ← (c .before .before .before .check-octet .ensures),
+      eq-eqb _ _ (c .before .if2 .taken),
+    )
 
 after-segment-requires-2 : tie.Need-after-segment-requires-2
 after-segment-requires-2 c κs = search needs
 
 returns-2 : tie.Need-returns-2
-unfolding completed
-returns-2 c = simp (c .after-segment2 .ensures, ← (c .before .before .before .before .before .before .before .last-segment .ensures), ← (c .before .before .before .before .before .before .all-marked .ensures), c .before .before .before .before .before .if1 .taken, ← (c .before .before .before .check-octet .ensures), ne-eqb _ _ (c .before .if2 .left))
+returns-2 c =
+    let d = c .before .before .before .before .before in
+    simp (
+      c .after-segment2 .ensures,
+      ← (d .before .before .last-segment .ensures),
+      ← (d .before .all-marked .ensures),
+      d .if1 .taken,
+      ← (c .before .before .before .check-octet .ensures),
+      ne-eqb _ _ (c .before .if2 .left),
+    )
 
 after-segment-requires-3 : tie.Need-after-segment-requires-3
 after-segment-requires-3 c κs = search needs
 
 returns-3 : tie.Need-returns-3
-unfolding completed
 returns-3 c = simp (c .after-segment3 .ensures, ← (c .before .before .before .last-segment .ensures), ← (c .before .before .all-marked .ensures), c .before .if1 .left)
 
 pub complete-spec : {M : Type 1} → statement M

@@ -10,7 +10,7 @@ use Rattle.octets.specs.Parts.{part}
 use Rattle.transactions.proofs.Laws.{segN-small}
 use Rattle.transactions.specs.Segments.{segmentPlace}
 use Rattle.station.proofs.Laws.{entered-is, entered-part, segment-in}
-use Rattle.station.specs.Calls.{oneLink}
+use Rattle.station.specs.Calls.{oneLink, steppedOf}
 use Rattle.station.proofs.enter.Statement.{statement}
 use Rattle.station.proofs.enter.Tie as tie
 
@@ -37,7 +37,7 @@ returns c =
     let w = copied-part (a .part .now) (segmentPlace (a .index)) (a .frame .now) (a .from) (a .count) h (q .inFrame) in
     let x = oneLink (a .link) (a .part .now) in
     let d = part (a .frame .now) (a .from) (a .count) in (
-      simp (c .complete .ensures, c .before .before .mark .ensures, c .before .before .before .before .before .copy .ensures .1, c .before .before .before .before .before .before .segment-place .ensures, w) (sym (entered-is x (a .message) (a .index) d)),
+      simp (c .complete .ensures, c .before .before .mark .ensures, c .before .before .before .before .before .copy .ensures .1, c .before .before .before .before .before .before .segment-place .ensures, w) (sym (ap steppedOf (entered-is x (a .message) (a .index) d))),
       simp (c .before .before .before .before .before .copy .ensures .1, c .before .before .before .before .before .before .segment-place .ensures, w) (sym (entered-part x (a .message) (a .index) d)),
     )
 

@@ -1,7 +1,7 @@
-use Prim.Native.Nat.{_+_, _*_, _/_, _%_}
 use borrow.Author.Needs.{needs}
-use mathlib.Core.Path.{_≡_}
+use mathlib.Core.Path.{ap}
 use native.Mathlib.Omega.{arith}
+use Rattle.transactions.specs.Promises.{number}
 use Rattle.transactions.proofs.TransactionNumber.next.Statement.{statement}
 use Rattle.transactions.proofs.TransactionNumber.next.Tie as tie
 
@@ -15,10 +15,7 @@ add-t8 : tie.Need-add-t8
 add-t8 c = search needs
 
 returns : tie.Need-returns
-returns c =
-    let t = c .args .self .0 in
-    let e : t / 128 * 128 + (t % 128 + 1) % 128 ≡ 128 * (t / 128) + (t + 1) % 128 = omega arith in
-    rw e
+returns c = ap number (omega arith)
 
 pub next-spec : {M : Type 1} → statement M
 next-spec = tie.close (tie.spec mul-t4 add-t6 add-t8 returns)

@@ -21,4 +21,4 @@ returns-2 : tie.Need-returns-2
 returns-2 c = sym (place-further 20 23 (c .before .args .index) (omega arith))
 
 pub segment-place-spec : {M : Type 1} → statement M
-segment-place-spec = tie.close (tie.spec returns sub-result mul-result add-result returns-2)
+segment-place-spec = tie.close (tie.spec sub-result mul-result add-result returns returns-2)

@@ -1,7 +1,6 @@
--- By the two tests.
 use Rattle.octets.proofs.Tests.{tests}
-use Rattle.link_state.proofs.is_length.Statement.{statement}
-use Rattle.link_state.proofs.is_length.Tie as tie
+use Rattle.octets.proofs.is_length.Statement.{statement}
+use Rattle.octets.proofs.is_length.Tie as tie
 
 returns : tie.Need-returns
 returns c = search tests
