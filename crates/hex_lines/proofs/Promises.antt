@@ -20,7 +20,7 @@ use Rattle.hex.proofs.Laws.{length-octets}
 use Rattle.transactions.specs.declared.TransactionNumber.{TransactionNumber}
 use Rattle.transactions.proofs.Laws.{segN-small}
 use Rattle.hex_lines.specs.Lines.{isMessage, lineText, lineNext, told, withNext, lineWritten}
-use Rattle.hex_lines.specs.Promises.{lineRows, LineTable, RefusalKeeps, Enough, FrontDoesTheSame}
+use Rattle.hex_lines.specs.Promises.{lineRows, LineTable, RefusalKeeps, NoMessage, Enough, FrontDoesTheSame}
 use Rattle.hex_lines.proofs.Laws.{text-long}
 
 pub line-table : LineTable
@@ -37,6 +37,10 @@ refused-writer WrongArgument next n e = e
 pub refusal-keeps : RefusalKeeps
 refusal-keeps t line output n e =
     writer-keeps true (lineText t line) output n (refused-writer (written true (lineText t line) output) (lineNext t line) n e)
+
+pub no-message : NoMessage
+unfolding lineText lineNext
+no-message t line e = rw e (refl, refl)
 
 -- how many octets a message has
 message-length : (line : List ℕ) → isMessage line ≡ true → (1 ≤ length line / 2) × (length line / 2 ≤ 1469)

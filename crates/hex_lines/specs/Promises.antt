@@ -1,6 +1,6 @@
 -- What is promised of one line of the line program beyond its contract. The proofs are `proofs/Promises.antt`.
 use Prim.Native.Nat.{ℕ, _≤_}
-use mathlib.Core.Bool.{true}
+use mathlib.Core.Bool.{true, false}
 use mathlib.Core.List.{List, [], _∷_}
 use mathlib.Core.Path.{_≡_}
 use lib.Dec.{ltb}
@@ -8,7 +8,7 @@ use lib.ListN.{length, take}
 use Rattle.octets.specs.Told.{refused}
 use Rattle.octets.specs.Tables.{Row, refusal, reply, ByTable}
 use Rattle.transactions.specs.declared.TransactionNumber.{TransactionNumber}
-use Rattle.hex_lines.specs.Lines.{lineText, lineNext, told, lineWritten, lineOutput}
+use Rattle.hex_lines.specs.Lines.{isMessage, refusedText, lineText, lineNext, told, lineWritten, lineOutput}
 
 -- 11 where the output is shorter than the line's text; else the text's length and the next number
 abbrev pub lineRows : TransactionNumber → List ℕ → List ℕ → List Row
@@ -23,6 +23,10 @@ LineTable = (t : TransactionNumber) (line output : List ℕ) → ByTable (told (
 -- a refusal leaves the output as it was
 abbrev pub RefusalKeeps : Type 0
 RefusalKeeps = (t : TransactionNumber) (line output : List ℕ) (n : ℕ) → told (lineWritten t line output) ≡ refused n → lineOutput t line output ≡ output
+
+-- "A line that isn't an even number of digits from 2 to 2,938 writes `!11` and spends no number."
+abbrev pub NoMessage : Type 0
+NoMessage = (t : TransactionNumber) (line : List ℕ) → isMessage line ≡ false → (lineText t line ≡ refusedText) × (lineNext t line ≡ t)
 
 -- the const MOST of src/lib.rt is enough for every line
 abbrev pub Enough : Type 0

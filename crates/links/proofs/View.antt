@@ -96,7 +96,7 @@ module _ (x : OneLink) (t : TransactionNumber) (header : SegmentHeader) (d : Lis
         let q : h .number .0 ≡ t .0 = eqb-true (h .number .0) (t .0) en in
         rw c (cases (isMarked (h .marks) k)
         (λ u. rw u (cases (same (piece segmentPlace (h .length) (x .part) k) d)
-        (λ v. rw v (asItWas A.Repeat tt refl)) (λ v. rw v (asItWas (A.Refused R.Mismatch) tt refl))))
+        (λ v. rw v (asItWas _ tt refl)) (λ v. rw v (asItWas _ tt refl))))
         (λ u. rw u (new h k (record {
           origin = held e;
           number = λ i. record { 0 = q i };
