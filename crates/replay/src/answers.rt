@@ -2,18 +2,15 @@
 use octets::Written;
 use script::Outcome;
 
-// The longest are the eight records of 22 octets.
-const MOST: usize = 176;
+// No answer has more octets: a line that asks for them has fewer itself, and a storage is shown in parts.
+const MOST: usize = 4096;
 
 pub(super) struct Answer {
     // The first character: a capital letter, the `O` of `OK`, `?`, or `!` with the refusal's number as the octet.
     pub first: u8,
     // How many octets there are.
-    pub count: u8,
+    pub count: u16,
     pub octets: [u8; MOST],
-    // Behind them so many octets of the storages are shown, from a place on.
-    pub from: usize,
-    pub shown: u16,
 }
 
 // An answer of its first character, behind which fields are put.
@@ -22,8 +19,6 @@ pub(super) fn letter(first: u8) -> Answer {
         first: first,
         count: 0,
         octets: [0u8; MOST],
-        from: 0,
-        shown: 0,
     }
 }
 
@@ -68,11 +63,17 @@ impl Answer {
             .pair((number % 65536) as u16)
     }
 
-    // Octets of the storages, behind all fields.
-    pub(super) fn show(self, from: usize, count: u16) -> Answer {
+    // So many octets of a list, from a place on.
+    pub(super) fn part(self, source: &[u8], from: usize, count: u16) -> Answer {
+        let at = self.count as usize;
+        let end = at + (count as usize);
         let mut after = self;
-        after.from = from;
-        after.shown = count;
+        let mut octets = self.octets;
+        if end <= MOST {
+            octet_parts::copy(&mut octets, at, source, from, count as usize);
+            after.octets = octets;
+            after.count = end as u16;
+        }
         after
     }
 
@@ -85,23 +86,14 @@ impl Answer {
             b'O' => Outcome::Done,
             _ => Outcome::Values {
                 letter: first,
-                count: (self.count as usize) + (self.shown as usize),
+                count: self.count as usize,
             },
         }
     }
 
     // The answer's line.
-    pub(super) fn write(self, storages: &[u8], output: &mut [u8]) -> Written {
-        let mut values = [0u8; 4096];
+    pub(super) fn write(self, output: &mut [u8]) -> Written {
         let octets = self.octets;
-        octet_parts::copy(&mut values, 0, &octets, 0, MOST);
-        octet_parts::copy(
-            &mut values,
-            self.count as usize,
-            storages,
-            self.from,
-            self.shown as usize,
-        );
-        script::write_outcome(self.outcome(), &values, output)
+        script::write_outcome(self.outcome(), &octets, output)
     }
 }

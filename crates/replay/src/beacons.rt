@@ -52,18 +52,12 @@ pub(super) fn show(state: SecurityState) -> Answer {
 fn put_hash(answer: Answer, beacon: &[u8], hash: Hash) -> Answer {
     match hash {
         Hash::Nothing => answer.octet(0).long(0),
-        Hash::At(place) => answer.octet(1).long(read32(beacon, place)),
+        Hash::At(place) => answer.octet(1).part(beacon, place, 4),
     }
 }
 
 fn unprovisioned(uuid: usize, oob: u16, hash: Hash, beacon: &[u8]) -> Answer {
-    let octets = behind(beacon, uuid);
-    let mut after = letter(b'U').long(read32(octets, 0));
-    after = after.long(read32(octets, 4));
-    after = after.long(read32(octets, 8));
-    after = after.long(read32(octets, 12));
-    after = after.pair(oob);
-    put_hash(after, beacon, hash)
+    put_hash(letter(b'U').part(beacon, uuid, 16).pair(oob), beacon, hash)
 }
 
 fn report_octet(report: IvReport) -> u8 {

@@ -8,7 +8,6 @@ use filter_messages::FilterAnswer;
 use filter_messages::FilterType;
 use octets::octet_at;
 use octets::read16;
-use octets::read32;
 use proxy_filter::Filter;
 use proxy_filter::FilterStep;
 use proxy_filter::PassAnswer;
@@ -85,7 +84,7 @@ pub(super) fn show(filter: Filter) -> Answer {
 
 fn status(kind: FilterType, count: u8) -> Answer {
     let octets = filter_messages::status_octets(kind, count);
-    letter(b'F').long(read32(&octets, 0))
+    letter(b'F').part(&octets, 0, 4)
 }
 
 fn answer_of(answered: FilterAnswer) -> Answer {

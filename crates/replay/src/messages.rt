@@ -73,6 +73,14 @@ pub(super) struct Viewed {
     pub place: usize,
 }
 
+pub(super) fn no_view() -> Viewed {
+    Viewed {
+        length: 0,
+        octets: [0u8; 0x0600],
+        place: 0,
+    }
+}
+
 // The view after an operation, and its answer.
 pub(super) struct ViewStep {
     pub viewed: Viewed,

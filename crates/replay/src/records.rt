@@ -13,6 +13,7 @@ use links::LinkState;
 use octets::octet_at;
 use octets::read16;
 use octets::read32;
+use transactions::Socket;
 use transactions::TransactionNumber;
 
 // The records after an operation, and its answer.
@@ -68,18 +69,19 @@ fn link_of(x: &[u8]) -> Link {
 }
 
 // The place of a socket's record; 8 where there is no such socket.
-fn place_of(socket: u8) -> usize {
-    if socket < 1 {
+fn place_of(socket: Socket) -> usize {
+    let number = socket.0;
+    if number < 1 {
         return 8;
     }
-    if 8 < socket {
+    if 8 < number {
         return 8;
     }
-    (socket - 1) as usize
+    (number - 1) as usize
 }
 
 fn set(links: [Link; 8], x: &[u8]) -> Records {
-    let place = place_of(octet_at(x, 0));
+    let place = place_of(Socket(octet_at(x, 0)));
     if place < 8 {
         let mut after = links;
         after[place] = link_of(x);
@@ -132,7 +134,7 @@ fn put_record(before: Answer, link: Link) -> Answer {
 }
 
 fn show(links: [Link; 8], x: &[u8]) -> Answer {
-    let place = place_of(octet_at(x, 0));
+    let place = place_of(Socket(octet_at(x, 0)));
     if place < 8 {
         let link = links[place];
         return put_record(letter(b'L'), link);

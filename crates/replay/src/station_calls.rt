@@ -1,6 +1,7 @@
 // The calls of the station.
 use crate::answers::Answer;
 use crate::answers::letter;
+use crate::answers::malformed;
 use crate::answers::refused;
 use crate::records::Records;
 use crate::records::keep;
@@ -44,9 +45,13 @@ fn after(received: Received) -> Records {
     keep(links, answer_of(answered))
 }
 
-// A frame is received, with octets of storage A lent.
+// A frame is received, with the first octets of the area lent.
 pub(super) fn receive(links: [Link; 8], x: &[u8], area: &mut [u8]) -> Records {
-    after(station::receive(links, area, behind(x, 2)))
+    let lent = read16(x, 0) as usize;
+    if area.len() < lent {
+        return keep(links, malformed());
+    }
+    after(station::receive(links, &mut area[0..lent], behind(x, 2)))
 }
 
 // The local calls, by the second letter.

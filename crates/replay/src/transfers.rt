@@ -2,6 +2,7 @@
 use crate::answers::Answer;
 use crate::answers::done;
 use crate::answers::letter;
+use crate::answers::malformed;
 use crate::answers::refused;
 use crate::shapes::behind;
 use octets::octet_at;
@@ -73,9 +74,13 @@ fn piece_answer(answered: PieceAnswer) -> Answer {
     }
 }
 
-// Reads a piece, with octets of storage B lent.
+// Reads a piece, with the first octets of the buffer lent.
 pub(super) fn read(transfer: Transfer, x: &[u8], buffer: &mut [u8]) -> TransferStep {
-    let read = proxy_reading::read_piece(transfer, buffer, behind(x, 2));
+    let lent = read16(x, 0) as usize;
+    if buffer.len() < lent {
+        return keep(transfer, malformed());
+    }
+    let read = proxy_reading::read_piece(transfer, &mut buffer[0..lent], behind(x, 2));
     let answered = read.answer;
     keep(read.transfer, piece_answer(answered))
 }

@@ -1,19 +1,18 @@
 use borrow.Author.Needs.{needs}
-use Prim.Native.Nat.{_≤_}
 use lib.ListN.{length}
 use mathlib.Core.Path.{_≡_}
 use Rattle.replay.proofs.run.Statement.{statement}
 use Rattle.replay.proofs.run.Tie as tie
 
 abbrev Inv-loop : tie.InvT-loop
-Inv-loop input₀ kept₀ output₀ progress₀ turns₀ input kept output progress turns =
+Inv-loop input₀ line₀ area₀ output₀ progress₀ turns₀ input line area output progress turns =
     (length input ≡ length input₀)
-    × (length kept ≡ length kept₀)
+    × (length line ≡ length line₀)
+    × (length area ≡ length area₀)
     × (length output ≡ length output₀)
-    × (17408 ≤ length kept)
 
 abbrev μ-loop : tie.MeasureT-loop
-μ-loop input₀ kept₀ output₀ progress₀ turns₀ input kept output progress turns = turns
+μ-loop input₀ line₀ area₀ output₀ progress₀ turns₀ input line area output progress turns = turns
 
 begin-requires : tie.Need-begin-requires Inv-loop μ-loop
 begin-requires c κs = search needs
@@ -51,6 +50,9 @@ same-length-2 c = search needs
 same-length-3 : tie.Need-same-length-3 Inv-loop μ-loop
 same-length-3 c = search needs
 
+same-length-4 : tie.Need-same-length-4 Inv-loop μ-loop
+same-length-4 c = search needs
+
 returns : tie.Need-returns Inv-loop μ-loop
 returns c = search needs
 
@@ -72,4 +74,5 @@ run-spec =
     same-length
     same-length-2
     same-length-3
+    same-length-4
     returns)
