@@ -82,25 +82,21 @@ fn after_hearing(heard: Heard, beacon: &[u8]) -> StateStep {
     keep(heard.state, answer_of(answered, beacon))
 }
 
-fn key_of(flag: u8) -> Key {
-    if flag == 0 {
-        return Key::Old;
-    }
-    Key::New
-}
-
-fn subnet_of(flag: u8) -> Subnet {
-    if flag == 0 {
-        return Subnet::Primary;
-    }
-    Subnet::Secondary
-}
-
 fn hearing_of(x: &[u8]) -> Hearing {
+    let key = if octet_at(x, 1) == 0 {
+        Key::Old
+    } else {
+        Key::New
+    };
+    let subnet = if octet_at(x, 2) == 0 {
+        Subnet::Primary
+    } else {
+        Subnet::Secondary
+    };
     Hearing {
         authentic: octet_at(x, 0) == 1,
-        key: key_of(octet_at(x, 1)),
-        subnet: subnet_of(octet_at(x, 2)),
+        key: key,
+        subnet: subnet,
     }
 }
 

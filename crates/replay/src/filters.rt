@@ -37,15 +37,12 @@ fn entries_of(x: &[u8]) -> [Entry; 16] {
     entries
 }
 
-fn type_of(octet: u8) -> FilterType {
-    if octet == 0 {
-        return FilterType::AcceptList;
-    }
-    FilterType::RejectList
-}
-
 fn set(x: &[u8]) -> FilterOutcome {
-    let kind = type_of(octet_at(x, 0));
+    let kind = if octet_at(x, 0) == 0 {
+        FilterType::AcceptList
+    } else {
+        FilterType::RejectList
+    };
     let entries = entries_of(x);
     let after = Filter {
         kind: kind,
@@ -66,20 +63,14 @@ fn put_entries(before: Answer, entries: [Entry; 16]) -> Answer {
     after
 }
 
-fn type_octet(kind: FilterType) -> u8 {
-    match kind {
-        FilterType::AcceptList => 0,
-        FilterType::RejectList => 1,
-    }
-}
-
 pub(super) fn show(filter: Filter) -> Answer {
     let kind = filter.kind;
     let entries = filter.entries;
-    put_entries(
-        letter(b'F').octet(type_octet(kind)).octet(filter.count),
-        entries,
-    )
+    let octet = match kind {
+        FilterType::AcceptList => 0,
+        FilterType::RejectList => 1,
+    };
+    put_entries(letter(b'F').octet(octet).octet(filter.count), entries)
 }
 
 fn status(kind: FilterType, count: u8) -> Answer {

@@ -83,18 +83,19 @@ fn take_turn(
     area: &mut [u8],
     output: &mut [u8],
 ) -> Progress {
-    let reading = read_on(progress.reading, input, line, output);
-    let characters = reading.characters;
-    let mut after = progress;
-    after.reading = reading;
-    if lines::is_whole(reading.streams, characters) {
-        let step = operations::perform_line(progress.held, &line[0..characters], area);
-        let held = step.held;
-        let written = write_answer(reading.streams, step.answer, output);
-        after.held = held;
-        after.reading = written;
+    let read = read_on(progress.reading, input, line, output);
+    let characters = read.characters;
+    let mut held = progress.held;
+    let mut reading = read;
+    if lines::is_whole(read.streams, characters) {
+        let step = operations::perform_line(held, &line[0..characters], area);
+        held = step.held;
+        reading = write_answer(read.streams, step.answer, output);
     }
-    after
+    Progress {
+        reading: reading,
+        held: held,
+    }
 }
 
 fn run(input: &mut [u8], line: &mut [u8], area: &mut [u8], output: &mut [u8]) {

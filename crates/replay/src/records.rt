@@ -82,12 +82,13 @@ fn place_of(socket: Socket) -> usize {
 
 fn set(links: [Link; 8], x: &[u8]) -> Records {
     let place = place_of(Socket(octet_at(x, 0)));
+    let mut after = links;
+    let mut answer = malformed();
     if place < 8 {
-        let mut after = links;
         after[place] = link_of(x);
-        return keep(after, done());
+        answer = done();
     }
-    keep(links, malformed())
+    keep(after, answer)
 }
 
 fn use_octet(state: LinkState) -> u8 {

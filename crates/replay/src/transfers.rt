@@ -54,16 +54,13 @@ pub(super) fn show(transfer: Transfer) -> Answer {
     }
 }
 
-fn connection_answer(answered: ConnectionAnswer) -> Answer {
-    match answered {
-        ConnectionAnswer::Done => done(),
-        ConnectionAnswer::BadState => refused(14),
-    }
-}
-
 fn after_connecting(connected: ConnectionSet) -> TransferStep {
     let answered = connected.answer;
-    keep(connected.transfer, connection_answer(answered))
+    let answer = match answered {
+        ConnectionAnswer::Done => done(),
+        ConnectionAnswer::BadState => refused(14),
+    };
+    keep(connected.transfer, answer)
 }
 
 fn piece_answer(answered: PieceAnswer) -> Answer {
