@@ -2,7 +2,7 @@
 use octets::Written;
 use script::Outcome;
 
-// No answer has more octets: a line that asks for them has fewer itself, and a storage is shown in parts.
+// Enough for every answer: of a storage at most 4,000 octets are shown, and what is written comes from the octets of a line.
 const MOST: usize = 4096;
 
 pub(super) struct Answer {
