@@ -7,7 +7,6 @@ use crate::filters;
 use crate::messages;
 use crate::messages::Viewed;
 use crate::records;
-use crate::records::Records;
 use crate::shapes;
 use crate::station_calls;
 use crate::storages;
@@ -176,38 +175,23 @@ fn perform_leaf(first: u8, x: &[u8]) -> Answer {
     }
 }
 
-fn with_links(held: Held, step: Records) -> Step {
+// The operations on storages B and O.
+fn perform_storage(held: Held, subject: Subject, second: u8, x: &[u8]) -> Step {
     let mut after = held;
-    let links = step.links;
-    after.links = links;
-    keep(after, step.answer)
-}
-
-fn read_piece(held: Held, x: &[u8]) -> Step {
     let mut buffer = held.buffer;
-    let step = transfers::read(held.transfer, x, &mut buffer);
-    let transfer = step.transfer;
-    let mut after = held;
-    after.transfer = transfer;
-    after.buffer = buffer;
-    keep(after, step.answer)
-}
-
-fn perform_buffer(held: Held, second: u8, x: &[u8]) -> Step {
-    let mut buffer = held.buffer;
-    let answer = storages::perform(second, x, &mut buffer);
-    let mut after = held;
-    after.buffer = buffer;
-    keep(after, answer)
-}
-
-fn perform_output(held: Held, subject: Subject, second: u8, x: &[u8]) -> Step {
     let mut output = held.output;
     let answer = match subject {
+        Subject::Buffer => storages::perform(second, x, &mut buffer),
+        Subject::Output => storages::perform(second, x, &mut output),
         Subject::Writer => writers::perform(second, x, &mut output),
-        _ => storages::perform(second, x, &mut output),
+        _ => {
+            let step = transfers::read(held.transfer, x, &mut buffer);
+            let transfer = step.transfer;
+            after.transfer = transfer;
+            step.answer
+        }
     };
-    let mut after = held;
+    after.buffer = buffer;
     after.output = output;
     keep(after, answer)
 }
@@ -215,36 +199,50 @@ fn perform_output(held: Held, subject: Subject, second: u8, x: &[u8]) -> Step {
 // The operations on the state that lend no storage.
 fn perform_state(held: Held, subject: Subject, second: u8, x: &[u8]) -> Step {
     let mut after = held;
-    match subject {
+    let answer = match subject {
         Subject::Links => {
-            let links = held.links;
-            with_links(held, records::perform(second, links, x))
+            let before = held.links;
+            let step = records::perform(second, before, x);
+            let links = step.links;
+            after.links = links;
+            step.answer
         }
         Subject::Transfer => {
             let step = transfers::perform(second, held.transfer, x);
             let transfer = step.transfer;
             after.transfer = transfer;
-            keep(after, step.answer)
+            step.answer
         }
         Subject::Filter => {
             let step = filters::perform(second, held.filter, x);
             let filter = step.filter;
             after.filter = filter;
-            keep(after, step.answer)
+            step.answer
         }
         Subject::View => {
             let step = messages::perform(second, held.viewed, x);
             let viewed = step.viewed;
             after.viewed = viewed;
-            keep(after, step.answer)
+            step.answer
         }
         _ => {
             let step = beacons::perform(second, held.security, x);
             let security = step.state;
             after.security = security;
-            keep(after, step.answer)
+            step.answer
         }
-    }
+    };
+    keep(after, answer)
+}
+
+// A frame is received, with octets of the area lent.
+fn receive_frame(held: Held, x: &[u8], area: &mut [u8]) -> Step {
+    let before = held.links;
+    let step = station_calls::receive(before, x, area);
+    let links = step.links;
+    let mut after = held;
+    after.links = links;
+    keep(after, step.answer)
 }
 
 // An operation by its two letters.
@@ -252,14 +250,11 @@ fn perform(held: Held, first: u8, second: u8, x: &[u8], area: &mut [u8]) -> Step
     let subject = subject_of(first, second);
     match subject {
         Subject::Area => keep(held, storages::perform(second, x, area)),
-        Subject::Buffer => perform_buffer(held, second, x),
-        Subject::Output => perform_output(held, subject, second, x),
-        Subject::Frame => {
-            let links = held.links;
-            with_links(held, station_calls::receive(links, x, area))
-        }
-        Subject::Piece => read_piece(held, x),
-        Subject::Writer => perform_output(held, subject, second, x),
+        Subject::Buffer => perform_storage(held, subject, second, x),
+        Subject::Output => perform_storage(held, subject, second, x),
+        Subject::Writer => perform_storage(held, subject, second, x),
+        Subject::Piece => perform_storage(held, subject, second, x),
+        Subject::Frame => receive_frame(held, x, area),
         Subject::Whole => perform_whole(held, second, area),
         Subject::Leaf => keep(held, perform_leaf(first, x)),
         _ => perform_state(held, subject, second, x),
