@@ -128,7 +128,7 @@ fn take(viewed: Viewed, wanted: Wanted) -> ViewStep {
     if octets.len() < length {
         return keep(viewed, malformed());
     }
-    let step = message_view::read_field(&octets[0..length], viewed.place, wanted);
+    let step = message_view::take_at(&octets[0..length], viewed.place, wanted);
     let field = step.field;
     let mut after = viewed;
     after.place = step.next;

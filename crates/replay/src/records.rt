@@ -70,14 +70,11 @@ fn link_of(x: &[u8]) -> Link {
 
 // The place of a socket's record; 8 where there is no such socket.
 fn place_of(socket: Socket) -> usize {
-    let number = socket.0;
-    if number < 1 {
-        return 8;
+    if socket.is_one_of(8) {
+        socket.place()
+    } else {
+        8
     }
-    if 8 < number {
-        return 8;
-    }
-    (number - 1) as usize
 }
 
 fn set(links: [Link; 8], x: &[u8]) -> Records {

@@ -53,12 +53,8 @@ pub(super) fn perform(second: u8, x: &[u8], output: &mut [u8]) -> Answer {
     answer_of(written, output)
 }
 
-fn is_length(length: usize) -> bool {
-    (1 <= length) & (length <= 1469)
-}
-
 pub(super) fn check_octet(x: &[u8]) -> Answer {
-    if is_length(x.len()) {
+    if octets::is_length(x.len()) {
         return letter(b'N').octet(fcs::check_octet(x));
     }
     refused(11)
@@ -66,7 +62,7 @@ pub(super) fn check_octet(x: &[u8]) -> Answer {
 
 pub(super) fn last_segment(x: &[u8]) -> Answer {
     let length = read16(x, 0);
-    if is_length(length as usize) {
+    if octets::is_length(length as usize) {
         let last = transactions::last_segment(length);
         return letter(b'N').octet((last % 256) as u8);
     }
