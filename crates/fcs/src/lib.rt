@@ -20,7 +20,7 @@ fn octet_step(remainder: u8, octet: u8) -> u8
     x
 }
 
-// The remainder after octets more.
+// The remainder after more octets.
 fn remainder_after(start: u8, octets: &[u8]) -> u8
     ensures { λ r. ⌜ r ≡ remainder start (now (octets .entry)) ⌝ }
 {

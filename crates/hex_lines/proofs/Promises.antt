@@ -1,13 +1,13 @@
 -- The promises of `specs/Promises.antt`: those of any writer of a text, and by the length of a line.
-use Prim.Native.Nat.{ℕ, _/_, _≤_, _<_}
+use Prim.Native.Nat.{ℕ, _/_, _%_, _≤_, _<_}
 use native.Mathlib.Omega.{arith}
-use mathlib.Core.Bool.{true, false}
+use mathlib.Core.Bool.{true, false, not}
 use mathlib.Core.List.{List}
 use mathlib.Core.Path.{_≡_, refl, sym, _∙_}
-use lib.Dec.{leb, ltb}
+use lib.Dec.{eqb, leb}
 use lib.ListN.{length, take}
 use lib.Seq.{length-take-le, take-all}
-use borrow.Author.Tests.{leb-true, leb-false, le-leb, lt-leb}
+use borrow.Author.Tests.{leb-true, leb-false, le-leb, lt-leb, not-true, not-false}
 use Rattle.octets.specs.Told.{refused}
 use Rattle.octets.specs.Writing.{told as writerTold, written}
 use Rattle.octets.specs.declared.Written.{Written}
@@ -15,12 +15,13 @@ use Rattle.octets.specs.declared.Written.the-variants.{Count, WrongArgument}
 use Rattle.octets.proofs.Tables.{by-table}
 use Rattle.octets.proofs.Tests.{cases, both-hold, lt-not-le}
 use Rattle.octets.proofs.Writing.{refusal-keeps as writer-keeps}
-use Rattle.hex.specs.Hex.{isHexadecimal, octetsOf}
+use Rattle.hex.specs.Hex.{allDigits, isHexadecimal, octetsOf}
 use Rattle.hex.proofs.Laws.{length-octets}
+use Rattle.transactions.specs.Numbers.{numberAfter}
 use Rattle.transactions.specs.declared.TransactionNumber.{TransactionNumber}
 use Rattle.transactions.proofs.Laws.{segN-small}
-use Rattle.hex_lines.specs.Lines.{isMessage, lineText, lineNext, told, withNext, lineWritten}
-use Rattle.hex_lines.specs.Promises.{lineRows, LineTable, RefusalKeeps, NoMessage, Enough, FrontDoesTheSame}
+use Rattle.hex_lines.specs.Lines.{isMessage, messageText, refusedText, lineText, lineNext, told, withNext, lineWritten}
+use Rattle.hex_lines.specs.Promises.{lineRows, LineTable, RefusalKeeps, isNone, AllLinesWrite, Enough, FrontDoesTheSame}
 use Rattle.hex_lines.proofs.Laws.{text-long}
 
 pub line-table : LineTable
@@ -38,9 +39,27 @@ pub refusal-keeps : RefusalKeeps
 refusal-keeps t line output n e =
     writer-keeps true (lineText t line) output n (refused-writer (written true (lineText t line) output) (lineNext t line) n e)
 
-pub no-message : NoMessage
-unfolding lineText lineNext
-no-message t line e = rw e (refl, refl)
+-- `isMessage` in document 01's words
+none-no-message : (line : List ℕ) → isNone line ≡ not (isMessage line)
+none-no-message line =
+    rw (lt-not-le (length line) 2, lt-not-le 2938 (length line))
+    (cases (eqb (length line % 2) 0) (λ e. rw e (cases (allDigits line) (λ d. rw d (cases (leb 2 (length line)) (λ l. rw l) (λ l. rw l))) (λ d. rw d))) (λ e. rw e))
+
+module _ (t : TransactionNumber) (line : List ℕ) where
+  by-none : isMessage line ≡ false → (lineText t line ≡ refusedText) × (lineNext t line ≡ t)
+  unfolding lineText lineNext
+  by-none e = rw e (refl, refl)
+
+  by-message : isMessage line ≡ true → (lineText t line ≡ messageText t (octetsOf line)) × (lineNext t line ≡ numberAfter t)
+  unfolding lineText lineNext
+  by-message e = rw e (refl, refl)
+
+pub all-lines-write : AllLinesWrite
+unfolding messageText
+all-lines-write t line = record {
+  none = λ n. by-none t line (not-true _ (sym (none-no-message line) ∙ n));
+  message = λ n. by-message t line (not-false _ (sym (none-no-message line) ∙ n));
+}
 
 -- how many octets a message has
 message-length : (line : List ℕ) → isMessage line ≡ true → (1 ≤ length line / 2) × (length line / 2 ≤ 1469)

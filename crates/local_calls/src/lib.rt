@@ -16,7 +16,7 @@ ghost use Rattle.links.specs.Station.{openAt, localOpen, sendAt, localSend, clo
 ghost use Rattle.links.specs.declared.Side.the-variants.{Provisioner};
 ghost use Rattle.local_calls.specs.Calls.{calledOf};
 
-// Open past 11 and 14.
+// Open, once 11 and 14 are tried.
 fn open_at(links: [Link; 8], socket: Socket, id: u32) -> Received
     ensures { λ r. ⌜ r ≡ calledOf (openAt Provisioner links socket id) ⌝ }
 {
@@ -49,7 +49,7 @@ pub fn open(links: [Link; 8], socket: Socket, id: u32) -> Received
     refuse_call(links, Refusal::WrongArgument)
 }
 
-// Send past 11 and 14.
+// Send, once 11 and 14 are tried.
 fn send_at(links: [Link; 8], socket: Socket, length: u16) -> Received
     ensures { λ r. ⌜ r ≡ calledOf (sendAt links socket length) ⌝ }
 {
@@ -92,7 +92,7 @@ pub fn send(links: [Link; 8], socket: Socket, length: usize) -> Received
     refuse_call(links, Refusal::WrongArgument)
 }
 
-// Close past 11 and 14.
+// Close, once 11 and 14 are tried.
 fn close_at(links: [Link; 8], socket: Socket) -> Received
     ensures { λ r. ⌜ r ≡ calledOf (closeAt Provisioner links socket) ⌝ }
 {

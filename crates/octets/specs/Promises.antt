@@ -25,7 +25,9 @@ pub record Cuts (a b : ℕ) (l : List ℕ) : Type 0 where
   -- so many pieces, each by its place
   pub count : length (cut a b l) ≡ suc (lastOf a b (length l))
   pub pieces : (k : ℕ) → k ≤ lastOf a b (length l) → getD (cut a b l) k [] ≡ piece (placeOf a b) (length l) l k
-  -- "all full but the last"
+  -- "up to 20 octets, the others up to 23, all full but the last"
+  pub first-most : length (piece (placeOf a b) (length l) l 0) ≤ a
+  pub further-most : (k : ℕ) → length (piece (placeOf a b) (length l) l (suc k)) ≤ b
   pub first : 0 < lastOf a b (length l) → length (piece (placeOf a b) (length l) l 0) ≡ a
   pub further : (k : ℕ) → suc k < lastOf a b (length l) → length (piece (placeOf a b) (length l) l (suc k)) ≡ b
   -- each begins before the end of a list that isn't empty

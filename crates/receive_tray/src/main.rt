@@ -5,7 +5,7 @@ use links::Answer;
 use links::Link;
 use octets::LONGEST_MESSAGE;
 use octets::Written;
-use station::AREA;
+use station::AREA_LENGTH;
 use transactions::Socket;
 use transactions::TransactionNumber;
 
@@ -94,7 +94,7 @@ fn bring_twice(
 ) -> Tray {
     let mut frame = [0u8; 29];
     let place = socket.place();
-    if messages.len() < AREA {
+    if messages.len() < AREA_LENGTH {
         return tray;
     }
     if 8 <= place {
@@ -189,9 +189,9 @@ fn write_tally(tally: Tally) {
 }
 
 fn main() {
-    let mut area = [0u8; AREA];
+    let mut area = [0u8; AREA_LENGTH];
     // The messages stand as they will stand in the area.
-    let mut messages = [0u8; AREA];
+    let mut messages = [0u8; AREA_LENGTH];
     fill(&mut messages);
     let links = link_records::blank_links();
     let tally = Tally {
@@ -211,7 +211,7 @@ fn main() {
     );
     let after = bring_rounds(tray, &mut area, &messages);
     write_tally(after.tally);
-    if octet_parts::same_part(&area, 0, &messages, 0, AREA) {
+    if octet_parts::same_part(&area, 0, &messages, 0, AREA_LENGTH) {
         io::write_all(STDOUT_FILENO, b"the area holds the messages\n");
     }
 }

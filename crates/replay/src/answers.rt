@@ -2,7 +2,7 @@
 use octets::Written;
 use script::Outcome;
 
-// Enough for every answer: of a storage at most 4,000 octets are shown, and what is written comes from the octets of a line.
+// Enough for every answer: of a storage at most 4,000 octets are shown, and no frame or piece that is written has more than 514.
 const MOST: usize = 4096;
 
 pub(super) struct Answer {

@@ -1,5 +1,5 @@
-// Replays a script: one operation a line in, one answer a line out (docs/REPLAY.md). It keeps the state and the storages between lines, makes
-// one call of the library for an operation, and writes what came back.
+// Replays a script: one operation a line in, one answer a line out (docs/REPLAY.md). It keeps the state and the storages between lines; an
+// operation is one call of the library, and the answer what came back.
 mod answers;
 mod beacons;
 mod filters;

@@ -175,7 +175,7 @@ fn perform_leaf(first: u8, x: &[u8]) -> Answer {
     }
 }
 
-// The operations on storages B and O.
+// The operations on storages B and O, and the calls that they are lent to.
 fn perform_storage(held: Held, subject: Subject, second: u8, x: &[u8]) -> Step {
     let mut after = held;
     let mut buffer = held.buffer;
@@ -184,6 +184,7 @@ fn perform_storage(held: Held, subject: Subject, second: u8, x: &[u8]) -> Step {
         Subject::Buffer => storages::perform(second, x, &mut buffer),
         Subject::Output => storages::perform(second, x, &mut output),
         Subject::Writer => writers::perform(second, x, &mut output),
+        // A proxy piece.
         _ => {
             let step = transfers::read(held.transfer, x, &mut buffer);
             let transfer = step.transfer;
@@ -225,6 +226,7 @@ fn perform_state(held: Held, subject: Subject, second: u8, x: &[u8]) -> Step {
             after.viewed = viewed;
             step.answer
         }
+        // Beacons, the key and IV state.
         _ => {
             let step = beacons::perform(second, held.security, x);
             let security = step.state;

@@ -23,13 +23,14 @@ fn write_piece(x: &[u8], output: &mut [u8]) -> Written {
 
 fn written_by(second: u8, x: &[u8], output: &mut [u8]) -> Written {
     let id = read32(x, 2);
-    let last = octet_at(x, 6);
+    // The number of a transaction, or the reason of a Close.
+    let octet = octet_at(x, 6);
     match second {
-        b'S' => write_segment(x, id, TransactionNumber(last), output),
-        b'K' => pb_adv_writing::write_acknowledgement(id, TransactionNumber(last), output),
+        b'S' => write_segment(x, id, TransactionNumber(octet), output),
+        b'K' => pb_adv_writing::write_acknowledgement(id, TransactionNumber(octet), output),
         b'O' => control_writing::write_open(id, behind(x, 6), output),
         b'A' => control_writing::write_ack(id, output),
-        b'C' => control_writing::write_close(id, last, output),
+        b'C' => control_writing::write_close(id, octet, output),
         _ => write_piece(x, output),
     }
 }

@@ -64,21 +64,21 @@ module _ (x : OneLink) (h : HalfMessage) (k : ℕ) (d : List ℕ) where
       (λ e. rw e)
 
 -- a segment lies within a part
-pub segment-in : (n k count : ℕ) → 1 ≤ n → n ≤ 1469 → k ≤ segN n → count ≡ segmentLength n k → segmentPlace k + count ≤ 1469
-segment-in n k count some few inside right = omega (arith, segment-begins n k some inside)
+pub segment-in : (n k count : ℕ) → 1 ≤ n → n ≤ 1469 → k ≤ segN n → count ≤ segmentLength n k → segmentPlace k + count ≤ 1469
+segment-in n k count some few inside fits = omega (arith, segment-begins n k some inside)
 
 -- a segment that is offered and right: in already, or new
-module _ (x : OneLink) (h : HalfMessage) (k : ℕ) (f : List ℕ) (from count : ℕ) (asks : EnterAsks h k (x .part) f from count) where
+module _ (x : OneLink) (h : HalfMessage) (k : ℕ) (f : List ℕ) (from count : ℕ) (asks : EnterAsks h k (x .part) f from count) (full : count ≡ segmentLength (h .length) k) where
   fits-part : segmentPlace k + count ≤ length (x .part)
-  fits-part = omega (arith, segment-in (h .length) k count (asks .someOctets) (asks .fewOctets) (asks .inside) (asks .right), asks .room)
+  fits-part = omega (arith, segment-in (h .length) k count (asks .someOctets) (asks .fewOctets) (asks .inside) (asks .fits), asks .room)
 
   right : eqb (length (part f from count)) (segmentLength (h .length) k) ≡ true
-  right = eq-eqb _ _ (part-length f from count (asks .inFrame) ∙ asks .right)
+  right = eq-eqb _ _ (part-length f from count (asks .inFrame) ∙ full)
 
   compares : same (piece segmentPlace (h .length) (x .part) k) (part f from count) ≡ samePart (x .part) (segmentPlace k) f from count
   unfolding piece
   compares =
-      rw (← (asks .right)) (sym (same-part-fits (x .part) (segmentPlace k) f from count fits-part (asks .inFrame)))
+      rw (← full) (sym (same-part-fits (x .part) (segmentPlace k) f from count fits-part (asks .inFrame)))
 
   pub offered-in : isMarked (h .marks) k ≡ true
       → (steppedOf (offered x h k (part f from count)) ≡ record { link = x .link; answer = compared k (x .part) f from count })

@@ -69,14 +69,14 @@ pub record OfferAsks (h : HalfMessage) (p f : List ℕ) (from count : ℕ) : Typ
   pub fewOctets : h .length ≤ 1469
   pub inFrame : from + count ≤ length f
 
--- it is entered
+-- it is entered; nothing asks here that it is full
 pub record EnterAsks (h : HalfMessage) (k : ℕ) (p f : List ℕ) (from count : ℕ) : Type 0 where
   pub room : length p ≡ 1469
   pub someOctets : 1 ≤ h .length
   pub fewOctets : h .length ≤ 1469
   pub inFrame : from + count ≤ length f
   pub inside : k ≤ segN (h .length)
-  pub right : count ≡ segmentLength (h .length) k
+  pub fits : count ≤ segmentLength (h .length) k
 
 -- ---- a segment at its link
 

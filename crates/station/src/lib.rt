@@ -36,7 +36,7 @@ ghost use Rattle.station.specs.Calls.{receiving, receivedOf, oneLink, st
 ghost use Rattle.station.specs.Steps.{steppedTo, linkRefused, compared, enteredFrom, offeredFrom, begunFrom, OfferAsks, EnterAsks, SegmentAsks, byHeader, segmentSteps, segmentTaken, NoSegment, otherStep, otherAt, otherFrame, SocketAsks, atFound};
 
 // The octets of the area: those of a longest message for each socket.
-pub const AREA: usize = 8 * LONGEST_MESSAGE;
+pub const AREA_LENGTH: usize = 8 * LONGEST_MESSAGE;
 
 // One record after a step of its link, and the answer.
 pub struct Stepped {
@@ -507,12 +507,12 @@ fn receive_segment(links: [Link; 8], segment: Segment, area: &mut [u8], frame: &
     at_socket(links, place, segment, area, frame)
 }
 
-// Receives a frame. The area has 11,752 octets, AREA, 1,469 for each socket.
+// Receives a frame. The area has AREA_LENGTH octets.
 pub fn receive(links: [Link; 8], area: &mut [u8], frame: &[u8]) -> Received
     ensures { λ r. ⌜ (r ≡ receivedOf (receiving links (now (area .entry)) (now (frame .entry))))
         × (now (area .exit) ≡ receiving links (now (area .entry)) (now (frame .entry)) .1 .area) ⌝ }
 {
-    if area.len() != AREA {
+    if area.len() != AREA_LENGTH {
         return refuse_call(links, Refusal::WrongArgument);
     }
     if link_state::is_good(Side::Provisioner, links) {

@@ -6,7 +6,7 @@ use mathlib.Core.List.{List}
 use mathlib.Core.Path.{_≡_, refl, ap}
 use lib.ListN.{length}
 use Rattle.octets.proofs.Cut.{place-up, last-enough, last-least, piece-length, piece-begins}
-use borrow.Author.Tests.{le-leb, leb-true}
+use borrow.Author.Tests.{leb-true}
 use Rattle.octets.proofs.Tests.{both-hold}
 use Rattle.transactions.specs.Numbers.{isSocket}
 use Rattle.transactions.specs.declared.Socket.{Socket}
@@ -40,9 +40,6 @@ segment-begins n k some h = piece-begins 20 23 n k (omega arith) some h
 pub segment-long : (m : List ℕ) (k : ℕ) → length (segment m k) ≡ segmentLength (length m) k
 segment-long m k = piece-length segmentPlace refl (place-up 20 23) (length m) m k (omega arith)
 
--- a socket is one of n exactly if its number is 1 to n
-pub socket-in : (s : Socket) (n : ℕ) → 1 ≤ s .0 → s .0 ≤ n → isSocket s n ≡ true
-socket-in s n low high = rw (le-leb 1 (s .0) low, le-leb (s .0) n high)
-
+-- the number of one of n sockets
 pub socket-out : (s : Socket) (n : ℕ) → isSocket s n ≡ true → (1 ≤ s .0) × (s .0 ≤ n)
 socket-out s n e = let p = both-hold e in (leb-true 1 (s .0) (p .0), leb-true (s .0) n (p .1))

@@ -1,8 +1,8 @@
 -- 11, 14, then `open_at`.
 use borrow.Author.Needs.{needs}
-use mathlib.Core.Path.{_≡_, sym, _∙_}
+use mathlib.Core.Path.{sym, _∙_}
 use Rattle.transactions.specs.Numbers.{isSocket}
-use Rattle.links.specs.Station.{openAt, localOpen}
+use Rattle.links.specs.Station.{localOpen}
 use Rattle.local_calls.proofs.Laws.{judged-wrong, judged-bad, judged-right}
 use Rattle.local_calls.proofs.open.Statement.{statement}
 use Rattle.local_calls.proofs.open.Tie as tie

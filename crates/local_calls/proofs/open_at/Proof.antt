@@ -1,6 +1,6 @@
 -- The tests of `openAt`, in their order.
 use borrow.Author.Needs.{needs}
-use mathlib.Core.Path.{_≡_, sym, _∙_}
+use mathlib.Core.Path.{sym, _∙_}
 use Rattle.local_calls.proofs.open_at.Statement.{statement}
 use Rattle.local_calls.proofs.open_at.Tie as tie
 

@@ -8,7 +8,7 @@ begin-requires : tie.Need-begin-requires
 begin-requires c κs = search needs
 
 enter-requires : tie.Need-enter-requires
-enter-requires c κs = let q = c .before .before .before .before .before .pre in rw (c .before .begin .ensures) (record { room = q .room; someOctets = q .fits .0; fewOctets = q .fits .1; inFrame = q .inFrame; inside = omega arith; right = omega (arith, q .fits .2) })
+enter-requires c κs = let q = c .before .before .before .before .before .pre in rw (c .before .begin .ensures) (record { room = q .room; someOctets = q .fits .0; fewOctets = q .fits .1; inFrame = q .inFrame; inside = omega arith; fits = omega (arith, q .fits .2) })
 
 same-length : tie.Need-same-length
 same-length c = search needs

@@ -33,7 +33,7 @@ returns : tie.Need-returns
 returns c =
     let a = c .before .before .before .before .before .before .before .before .before .before .args in
     let q = c .before .before .before .before .before .before .before .before .before .before .pre in
-    let h : segmentPlace (a .index) + a .count ≤ length (a .part .now) = omega (arith, segment-in (a .message .length) (a .index) (a .count) (q .someOctets) (q .fewOctets) (q .inside) (q .right)) in
+    let h : segmentPlace (a .index) + a .count ≤ length (a .part .now) = omega (arith, segment-in (a .message .length) (a .index) (a .count) (q .someOctets) (q .fewOctets) (q .inside) (q .fits)) in
     let w = copied-part (a .part .now) (segmentPlace (a .index)) (a .frame .now) (a .from) (a .count) h (q .inFrame) in
     let x = oneLink (a .link) (a .part .now) in
     let d = part (a .frame .now) (a .from) (a .count) in (

@@ -1,9 +1,10 @@
 -- The refusals by their tests; a right segment is in already or new (`offered-in`, `offered-new`).
 use borrow.Author.Needs.{needs}
 use borrow.Author.Tests.{le-leb, lt-leb, ne-eqb}
-use mathlib.Core.Path.{_∙_, sym}
+use mathlib.Core.Path.{_≡_, _∙_, sym}
 use Rattle.links.specs.Segments.{offered}
 use Rattle.octets.proofs.Parts.{part-length}
+use Rattle.transactions.specs.Segments.{segmentLength}
 use Rattle.station.proofs.Laws.{offered-in, offered-new}
 use Rattle.station.specs.Calls.{oneLink}
 use Rattle.station.specs.Steps.{EnterAsks}
@@ -48,7 +49,8 @@ returns-3 : tie.Need-returns-3
 returns-3 c =
     let a = c .before .before .before .before .before .before .before .before .before .before .args in
     let q : EnterAsks (a .message) (a .index) (a .part .now) (a .frame .now) (a .from) (a .count) = search needs in
-    let o = offered-in (oneLink (a .link) (a .part .now)) (a .message) (a .index) (a .frame .now) (a .from) (a .count) q (sym (c .before .before .before .is-marked .ensures) ∙ c .before .before .if3 .taken) in
+    let full : a .count ≡ segmentLength (a .message .length) (a .index) = search needs in
+    let o = offered-in (oneLink (a .link) (a .part .now)) (a .message) (a .index) (a .frame .now) (a .from) (a .count) q full (sym (c .before .before .before .is-marked .ensures) ∙ c .before .before .if3 .taken) in
     (simp (c .compare .ensures) (sym (o .0)), sym (o .1))
 
 enter-requires : tie.Need-enter-requires
@@ -61,7 +63,8 @@ returns-4 : tie.Need-returns-4
 returns-4 c =
     let a = c .before .before .before .before .before .before .before .before .before .before .before .before .args in
     let q : EnterAsks (a .message) (a .index) (a .part .now) (a .frame .now) (a .from) (a .count) = search needs in
-    let o = offered-new (oneLink (a .link) (a .part .now)) (a .message) (a .index) (a .frame .now) (a .from) (a .count) q (sym (c .before .before .before .before .before .is-marked .ensures) ∙ c .before .before .before .before .if3 .left) in
+    let full : a .count ≡ segmentLength (a .message .length) (a .index) = search needs in
+    let o = offered-new (oneLink (a .link) (a .part .now)) (a .message) (a .index) (a .frame .now) (a .from) (a .count) q full (sym (c .before .before .before .before .before .is-marked .ensures) ∙ c .before .before .before .before .if3 .left) in
     (simp (o, c .before .before .enter .ensures .0), simp (o, c .before .before .enter .ensures .1))
 
 pub offer-spec : {M : Type 1} → statement M
