@@ -4,7 +4,7 @@ use native.Mathlib.Nat.{zero-add, sub-zero, pow-zero, pow-succ', one-le-pow}
 use native.Mathlib.Numerals.{add-one}
 use native.Mathlib.Omega.{arith}
 use mathlib.Core.Bool.{true, false, cond}
-use mathlib.Core.List.{List, [], _∷_, _++_, append-assoc}
+use mathlib.Core.List.{List, [], _∷_, _++_, map, append-assoc}
 use mathlib.Core.Path.{_≡_, refl, sym, ap, _∙_}
 use lib.Dec.{leb, eqb, ltb}
 use lib.ListN.{length, take, drop, getD, replicate, length-append, length-drop, drop-of-length-le}
@@ -107,63 +107,67 @@ pub decimal-long : (k n : ℕ) → 1 ≤ k → n < 10 ^ k → length (decimalOf 
 unfolding decimalOf
 decimal-long k n some h = cases (eqb n 0) (λ e. rw e (omega arith)) (λ e. rw e (digits-long k n n h))
 
--- ---- a line, field by field
+-- ---- a line, text by text
 
-ends-at : (fs : List Field) (j : ℕ) (d : Field) → endBefore (drop j fs) ≡ cond (leb (length fs) j) 10 44
-ends-at fs j d =
-    cases (leb (length fs) j) (λ e. rw (e, drop-of-length-le fs (leb-true (length fs) j e)))
-    (λ e. rw (e, drop-cons fs j d (leb-false (length fs) j e)))
+-- the text of the field at a place
+pub text-at : (fields : List Field) (i : ℕ) (d : Field) → i < length fields → getD (map fieldText fields) i [] ≡ fieldText (getD fields i d)
+text-at [] i d h = absurd (omega arith)
+text-at (f ∷ fields) zero d h = refl
+text-at (f ∷ fields) (suc i) d h = text-at fields i d (omega arith)
 
-pub line-step : (fs : List Field) (i : ℕ) (d : Field) → i < length fs
-    → lineOf (drop i fs) ≡ (fieldText (getD fs i d) ++ (cond (leb (length fs) (i + 1)) 10 44 ∷ [])) ++ lineOf (drop (i + 1) fs)
+pub texts-long : (fields : List Field) → length (map fieldText fields) ≡ length fields
+texts-long [] = refl
+texts-long (f ∷ fields) = ap suc (texts-long fields)
+
+ends-at : (ts : List (List ℕ)) (j : ℕ) → endBefore (drop j ts) ≡ cond (leb (length ts) j) 10 44
+ends-at ts j =
+    cases (leb (length ts) j) (λ e. rw (e, drop-of-length-le ts (leb-true (length ts) j e)))
+    (λ e. rw (e, drop-cons ts j [] (leb-false (length ts) j e)))
+
+-- the text at a place, and what stands behind it
+abbrev pub endedText : List (List ℕ) → ℕ → List ℕ
+endedText ts i = getD ts i [] ++ (cond (leb (length ts) (i + 1)) 10 44 ∷ [])
+
+pub line-step : (ts : List (List ℕ)) (i : ℕ) → i < length ts → lineOf (drop i ts) ≡ endedText ts i ++ lineOf (drop (i + 1) ts)
 unfolding lineOf
-line-step fs i d h =
-    rw (add-one i, drop-cons fs i d h, ends-at fs (suc i) d)
-    (sym (append-assoc (fieldText (getD fs i d)) (cond (leb (length fs) (suc i)) 10 44 ∷ []) (lineOf (drop (suc i) fs))))
+line-step ts i h =
+    rw (add-one i, drop-cons ts i [] h, ends-at ts (suc i))
+    (sym (append-assoc (getD ts i []) (cond (leb (length ts) (suc i)) 10 44 ∷ []) (lineOf (drop (suc i) ts))))
 
 pub line-end : lineOf [] ≡ []
 unfolding lineOf
 line-end = refl
 
-module _ (fs : List Field) (first line : List ℕ) (at i : ℕ) where
-  -- what is to be written from the field at place i on
+module _ (ts : List (List ℕ)) (first line : List ℕ) (at i : ℕ) where
+  -- what is to be written from the text at place i on
   abbrev rest : List ℕ
-  rest = lineOf (drop i fs)
+  rest = lineOf (drop i ts)
 
-  -- a line of which the fields before place i stand at its start: with the rest behind them it is whole
+  -- a line of which the texts before place i stand at its start: with the rest behind them it is whole
   pub record Begun : Type 0 where
-    pub long : at + length rest ≡ length (lineOf fs)
-    pub whole : write line at rest ≡ write first 0 (lineOf fs)
+    pub long : at + length rest ≡ length (lineOf ts)
+    pub whole : write line at rest ≡ write first 0 (lineOf ts)
 
-pub begun : (fs : List Field) (first : List ℕ) → Begun fs first first 0 0
-begun fs first = record { long = omega arith; whole = refl }
+pub begun : (ts : List (List ℕ)) (first : List ℕ) → Begun ts first first 0 0
+begun ts first = record { long = omega arith; whole = refl }
 
--- one field more
-pub begun-next : (fs : List Field) (first line : List ℕ) (at i : ℕ) (d : Field) (next : ℕ) (after : List ℕ) → i < length fs
-    → let text = fieldText (getD fs i d) ++ (cond (leb (length fs) (i + 1)) 10 44 ∷ []) in
-    next ≡ at + length text → after ≡ write line at text → next ≤ length line → Begun fs first line at i → Begun fs first after next (i + 1)
-begun-next fs first line at i d next after h e q fits b =
-    let text = fieldText (getD fs i d) ++ (cond (leb (length fs) (i + 1)) 10 44 ∷ []) in
-    let more = lineOf (drop (i + 1) fs) in
-    let step : lineOf (drop i fs) ≡ text ++ more = line-step fs i d h in
+-- one text more
+pub begun-next : (ts : List (List ℕ)) (first line : List ℕ) (at i next : ℕ) (after : List ℕ) → i < length ts
+    → next ≡ at + length (endedText ts i) → after ≡ write line at (endedText ts i) → next ≤ length line → Begun ts first line at i → Begun ts first after next (i + 1)
+begun-next ts first line at i next after h e q fits b =
+    let text = endedText ts i in
+    let more = lineOf (drop (i + 1) ts) in
+    let step : lineOf (drop i ts) ≡ text ++ more = line-step ts i h in
     record {
       long = omega (arith, ap length step, length-append text more, b .long);
       whole = rw (q, e) (write-next line at text more (omega arith) ∙ rw (← step) (b .whole));
     }
 
--- all fields
-pub begun-all : (fs : List Field) (first line : List ℕ) (at i : ℕ) → length fs ≤ i → at ≤ length first → Begun fs first line at i
-    → (at ≡ length (lineOf fs)) × (take at line ≡ lineOf fs)
-begun-all fs first line at i h room b =
-    let none : lineOf (drop i fs) ≡ [] = rw (drop-of-length-le fs h) line-end in
-    let long : at ≡ length (lineOf fs) = omega (arith, rw none at (b .long)) in
-    let whole : line ≡ write first 0 (lineOf fs) = sym (write-nothing line at) ∙ rw none at (b .whole) in
-    (long, rw (whole, long) (ap (λ (n : ℕ). take n (write first 0 (lineOf fs))) (sym (zero-add (length (lineOf fs)))) ∙ write-front first 0 (lineOf fs) (omega arith)))
-
--- all fields, where more are asked for than there are
-pub take-few : (fs : List Field) (count most : ℕ) → length fs ≡ most → take (min count most) fs ≡ take count fs
-take-few fs count most e =
-    cases (leb count most) (λ p. let m : min count most ≡ count = omega (arith, leb-true count most p) in rw m)
-    (λ p. let b = leb-false count most p in
-    let m : min count most ≡ most = omega arith in
-    rw m (take-all most fs (omega arith) ∙ sym (take-all count fs (omega arith))))
+-- all texts
+pub begun-all : (ts : List (List ℕ)) (first line : List ℕ) (at i : ℕ) → length ts ≤ i → at ≤ length first → Begun ts first line at i
+    → (at ≡ length (lineOf ts)) × (take at line ≡ lineOf ts)
+begun-all ts first line at i h room b =
+    let none : lineOf (drop i ts) ≡ [] = rw (drop-of-length-le ts h) line-end in
+    let long : at ≡ length (lineOf ts) = omega (arith, rw none at (b .long)) in
+    let whole : line ≡ write first 0 (lineOf ts) = sym (write-nothing line at) ∙ rw none at (b .whole) in
+    (long, rw (whole, long) (ap (λ (n : ℕ). take n (write first 0 (lineOf ts))) (sym (zero-add (length (lineOf ts)))) ∙ write-front first 0 (lineOf ts) (omega arith)))

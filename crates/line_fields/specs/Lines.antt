@@ -9,12 +9,11 @@ use lib.Dec.{eqb}
 use lib.ListN.{length, take}
 use Rattle.octets.specs.Numbers.{octets16, octets32}
 use Rattle.octets.specs.Parts.{part}
-use Rattle.octets.specs.Told.{Told, refused, answered}
 use Rattle.hex.specs.Hex.{textOf}
-use Rattle.provisioning.specs.Message.{told as messageTold}
-use Rattle.provisioning.specs.declared.Message.{Message}
 use Rattle.line_fields.specs.declared.Characters.{Characters}
-use Rattle.line_fields.specs.declared.NameRow.{NameRow}
+use Rattle.line_fields.specs.declared.WordRow.{WordRow}
+use Rattle.line_fields.specs.declared.Word.{Word}
+use Rattle.line_fields.specs.declared.Word.the-variants as W
 use Rattle.line_fields.specs.declared.Field.{Field}
 use Rattle.line_fields.specs.declared.Field.the-variants as F
 
@@ -42,47 +41,57 @@ decimalOf n = cond (eqb n 0) (48 ∷ []) (digitsUpTo n n)
 abbrev pub hexadecimalOf : List ℕ → List ℕ
 hexadecimalOf octets = 48 ∷ 120 ∷ textOf octets
 
--- the last two decimal digits of a number
-abbrev pub twoDigits : ℕ → List ℕ
-twoDigits n = (48 + n / 10 % 10) ∷ (48 + n % 10) ∷ []
+abbrev pub spelling : Word → String
+spelling W.Record = "record"
+spelling W.Repeated = "repeated"
+spelling W.Conflict = "conflict"
+spelling W.Message = "message"
+spelling W.Refused = "refused"
+spelling W.Missing = "missing"
+spelling W.Unopened = "unopened"
+spelling W.End = "end"
+spelling W.Invite = "Invite"
+spelling W.Capabilities = "Capabilities"
+spelling W.Start = "Start"
+spelling W.PublicKey = "Public Key"
+spelling W.InputComplete = "Input Complete"
+spelling W.Confirmation = "Confirmation"
+spelling W.Random = "Random"
+spelling W.Data = "Data"
+spelling W.Complete = "Complete"
+spelling W.Failed = "Failed"
 
-abbrev pub word : Told → String
-word (refused n) = ""
-word (answered name values) = name
-
--- the name of a message, as document 01 writes it
-unfoldable pub nameOf : Message → List ℕ
-nameOf message = ascii (word (messageTold message))
+unfoldable pub wordText : Word → List ℕ
+wordText word = ascii (spelling word)
 
 -- ---- fields and lines
 
 unfoldable pub fieldText : Field → List ℕ
-fieldText (F.Mark character) = character ∷ []
+fieldText F.Empty = []
+fieldText (F.Word word) = wordText word
 fieldText (F.Decimal n) = decimalOf n
 fieldText (F.Octet n) = hexadecimalOf (n ∷ [])
 fieldText (F.Pair n) = hexadecimalOf (octets16 n)
 fieldText (F.Number n) = hexadecimalOf (octets32 n)
-fieldText (F.Refusal n) = 33 ∷ twoDigits n
-fieldText (F.Name message) = nameOf message
 
--- what stands behind a field: a comma before further ones, a newline behind the last
-abbrev pub endBefore : List Field → ℕ
+-- what stands behind a text: a comma before further ones, a newline behind the last
+abbrev pub endBefore : List (List ℕ) → ℕ
 endBefore [] = 10
-endBefore (f ∷ fs) = 44
+endBefore (t ∷ ts) = 44
 
--- A LINE of fields
-unfoldable pub lineOf : List Field → List ℕ
+-- A LINE of texts
+unfoldable pub lineOf : List (List ℕ) → List ℕ
 lineOf [] = []
-lineOf (f ∷ fs) = fieldText f ++ (endBefore fs ∷ lineOf fs)
+lineOf (t ∷ ts) = t ++ (endBefore ts ∷ lineOf ts)
 
 -- ---- a field in a line
 
--- the names, in rows of 14 characters by the type of the message
-abbrev pub names : List ℕ
-names = ascii "Invite        Capabilities  Start         Public Key    Input CompleteConfirmation  Random        Data          Complete      Failed        "
+-- the words, in rows of 14 characters
+abbrev pub words : List ℕ
+words = ascii "record        repeated      conflict      message       refused       missing       unopened      end           Invite        Capabilities  Start         Public Key    Input CompleteConfirmation  Random        Data          Complete      Failed        "
 
-abbrev pub Names : NameRow → Message → Type 0
-Names r message = (part names (14 * r .row) (r .length) ≡ nameOf message) × (r .row ≤ 9) × (r .length ≤ 14)
+abbrev pub StandsAt : WordRow → Word → Type 0
+StandsAt r word = (part words (14 * r .row) (r .length) ≡ wordText word) × (r .row ≤ 17) × (r .length ≤ 14)
 
 -- a text of at most 20 characters
 abbrev pub textIn : Characters → List ℕ

@@ -1,31 +1,48 @@
 // A line of text: fields with a comma between them and a newline at the end, written at the start of a lent output.
 use octets::Written;
-use provisioning::Message;
 ghost use mathlib.Core.Bool.{true, cond};
-ghost use mathlib.Core.List.{[], _∷_, _++_};
+ghost use mathlib.Core.List.{[], _∷_, _++_, map};
 ghost use mathlib.Core.Path.{_≡_};
-ghost use Prim.Native.Nat.{_+_, _*_, _-_, _≤_, min};
+ghost use Prim.Native.Nat.{_+_, _*_, _-_, _≤_};
 ghost use lib.Dec.{leb};
-ghost use lib.ListN.{length, take, drop};
+ghost use lib.ListN.{length, drop};
 ghost use Rattle.octets.specs.Numbers.{octets32};
 ghost use Rattle.octets.specs.Parts.{part, write};
 ghost use Rattle.octets.specs.Writing.{written, outputAfter};
-ghost use Rattle.line_fields.specs.Lines.{decimalOf, hexadecimalOf, fieldText, lineOf, names, Names, textIn, Holds, FieldAsks};
-ghost use Rattle.line_fields.specs.declared.Field.the-variants.{Mark, Refusal};
+ghost use Rattle.line_fields.specs.Lines.{decimalOf, hexadecimalOf, fieldText, lineOf, words, StandsAt, textIn, Holds, FieldAsks};
+
+// A word: what a row of the stock table says, and the names of the messages.
+pub enum Word {
+    Record,
+    Repeated,
+    Conflict,
+    Message,
+    Refused,
+    Missing,
+    Unopened,
+    End,
+    Invite,
+    Capabilities,
+    Start,
+    PublicKey,
+    InputComplete,
+    Confirmation,
+    Random,
+    Data,
+    Complete,
+    Failed,
+}
 
 // A field of a line.
 pub enum Field {
-    // One character.
-    Mark(u8),
+    // No value.
+    Empty,
+    Word(Word),
     Decimal(u64),
     // In hexadecimal, at full width.
     Octet(u8),
     Pair(u16),
     Number(u32),
-    // Document 01's number of a refusal, behind an exclamation mark.
-    Refusal(u8),
-    // The name of a message.
-    Name(Message),
 }
 
 // The text of a field, at most 20 characters: so many at the start.
@@ -34,14 +51,14 @@ pub struct Characters {
     pub length: usize,
 }
 
-// Where the name of a message stands among the names, in rows of 14 characters.
-pub struct NameRow {
+// Where a word stands among the words, in rows of 14 characters.
+pub struct WordRow {
     pub row: usize,
     pub length: usize,
 }
 
-// No line is longer: eleven fields of at most 20 characters, and the comma or newline behind each.
-pub const MOST: usize = 231;
+// No line is longer: fifteen fields of at most 20 characters, and the comma or newline behind each.
+pub const MOST: usize = 315;
 
 // A text at the start of the output, or refusal 11.
 pub fn write_text(text: &[u8], output: &mut [u8]) -> Written
@@ -52,18 +69,6 @@ pub fn write_text(text: &[u8], output: &mut [u8]) -> Written
         Written::Count(text.len())
     } else {
         Written::WrongArgument
-    }
-}
-
-// One character.
-fn mark_text(character: u8) -> Characters
-    ensures { λ r. ⌜ Holds r (fieldText (Mark character)) ⌝ }
-{
-    let mut text = [0u8; 20];
-    text[0] = character;
-    Characters {
-        text: text,
-        length: 1,
     }
 }
 
@@ -106,56 +111,55 @@ fn hexadecimal_text(value: u32, count: usize) -> Characters
     }
 }
 
-fn refusal_text(refusal: u8) -> Characters
-    ensures { λ r. ⌜ Holds r (fieldText (Refusal refusal)) ⌝ }
+fn word_row(word: Word) -> WordRow
+    ensures { λ r. ⌜ StandsAt r word ⌝ }
 {
-    let mut text = [0u8; 20];
-    text[0] = b'!';
-    text[1] = 48 + refusal / 10 % 10;
-    text[2] = 48 + refusal % 10;
-    Characters {
-        text: text,
-        length: 3,
+    match word {
+        Word::Record => WordRow { row: 0, length: 6 },
+        Word::Repeated => WordRow { row: 1, length: 8 },
+        Word::Conflict => WordRow { row: 2, length: 8 },
+        Word::Message => WordRow { row: 3, length: 7 },
+        Word::Refused => WordRow { row: 4, length: 7 },
+        Word::Missing => WordRow { row: 5, length: 7 },
+        Word::Unopened => WordRow { row: 6, length: 8 },
+        Word::End => WordRow { row: 7, length: 3 },
+        Word::Invite => WordRow { row: 8, length: 6 },
+        Word::Capabilities => WordRow { row: 9, length: 12 },
+        Word::Start => WordRow { row: 10, length: 5 },
+        Word::PublicKey => WordRow {
+            row: 11,
+            length: 10,
+        },
+        Word::InputComplete => WordRow {
+            row: 12,
+            length: 14,
+        },
+        Word::Confirmation => WordRow {
+            row: 13,
+            length: 12,
+        },
+        Word::Random => WordRow { row: 14, length: 6 },
+        Word::Data => WordRow { row: 15, length: 4 },
+        Word::Complete => WordRow { row: 16, length: 8 },
+        Word::Failed => WordRow { row: 17, length: 6 },
     }
 }
 
-// The row of a message's name, which is the message's type, and the name's length; a refusal has no name.
-fn name_row(message: Message) -> NameRow
-    ensures { λ r. ⌜ Names r message ⌝ }
-{
-    match message {
-        Message::Invite { attention: _ } => NameRow { row: 0, length: 6 },
-        Message::Capabilities(_) => NameRow { row: 1, length: 12 },
-        Message::Start(_) => NameRow { row: 2, length: 5 },
-        Message::PublicKey { x: _, y: _ } => NameRow { row: 3, length: 10 },
-        Message::InputComplete => NameRow { row: 4, length: 14 },
-        Message::Confirmation { confirmation: _ } => NameRow { row: 5, length: 12 },
-        Message::Random { random: _ } => NameRow { row: 6, length: 6 },
-        Message::Data {
-            encrypted: _,
-            mic: _,
-        } => NameRow { row: 7, length: 4 },
-        Message::Complete => NameRow { row: 8, length: 8 },
-        Message::Failed { code: _ } => NameRow { row: 9, length: 6 },
-        Message::Refused(_) => NameRow { row: 0, length: 0 },
-    }
-}
-
-fn name_text(name: NameRow) -> Characters
-    requires { ⌜ (name .row ≤ 9) × (name .length ≤ 14) ⌝ }
-    ensures { λ r. ⌜ Holds r (part names (14 * name .row) (name .length)) ⌝ }
+fn word_text(place: WordRow) -> Characters
+    requires { ⌜ (place .row ≤ 17) × (place .length ≤ 14) ⌝ }
+    ensures { λ r. ⌜ Holds r (part words (14 * place .row) (place .length)) ⌝ }
 {
     let mut text = [0u8; 20];
     octet_parts::copy(
         &mut text,
         0,
-        b"Invite        Capabilities  Start         Public Key    Input CompleteConfirmation  Random        Data          Complete      Failed        ",
-        14 * name.row,
-        name.length,
+        b"record        repeated      conflict      message       refused       missing       unopened      end           Invite        Capabilities  Start         Public Key    Input CompleteConfirmation  Random        Data          Complete      Failed        ",
+        14 * place.row,
+        place.length,
     );
     Characters {
         text: text,
-        length: name.length,
+        length: place.length,
     }
 }
 
@@ -163,22 +167,24 @@ fn field_text(field: Field) -> Characters
     ensures { λ r. ⌜ Holds r (fieldText field) ⌝ }
 {
     match field {
-        Field::Mark(character) => mark_text(character),
+        Field::Empty => Characters {
+            text: [0u8; 20],
+            length: 0,
+        },
+        Field::Word(word) => word_text(word_row(word)),
         Field::Decimal(value) => decimal_text(value),
         Field::Octet(value) => hexadecimal_text(value as u32, 1),
         Field::Pair(value) => hexadecimal_text(value as u32, 2),
         Field::Number(value) => hexadecimal_text(value, 4),
-        Field::Refusal(refusal) => refusal_text(refusal),
-        Field::Name(message) => name_text(name_row(message)),
     }
 }
 
-// What stands behind the field at a place of so many.
-fn end_of(index: usize, count: usize) -> u8
-    requires { ⌜ index + 1 ≤ count ⌝ }
-    ensures { λ r. ⌜ r ≡ cond (leb count (index + 1)) 10 44 ⌝ }
+// What stands behind the field at a place of fifteen.
+fn end_of(index: usize) -> u8
+    requires { ⌜ index + 1 ≤ 15 ⌝ }
+    ensures { λ r. ⌜ r ≡ cond (leb 15 (index + 1)) 10 44 ⌝ }
 {
-    if count <= index + 1 { b'\n' } else { b',' }
+    if 15 <= index + 1 { b'\n' } else { b',' }
 }
 
 // A text and what stands behind it, at a place of a line; the place after it.
@@ -194,26 +200,18 @@ fn put_ended(line: &mut [u8], at: usize, characters: Characters, end: u8) -> usi
     at + length + 1
 }
 
-// Eleven, where a count is more.
-fn at_most_eleven(count: usize) -> usize
-    ensures { λ r. ⌜ r ≡ min count 11 ⌝ }
+// The line of fifteen fields.
+pub fn write_fields(fields: [Field; 15], output: &mut [u8]) -> Written
+    ensures { λ r. ⌜ (r ≡ written true (lineOf (map fieldText fields)) (now (output .entry)))
+        × (now (output .exit) ≡ outputAfter true (lineOf (map fieldText fields)) (now (output .entry)))
+        × (length (lineOf (map fieldText fields)) ≤ 315) ⌝ }
 {
-    if count <= 11 { count } else { 11 }
-}
-
-// The line of the first fields. No line has more than the eleven of a record, and none of them more than 20 characters.
-pub fn write_fields(fields: [Field; 11], count: usize, output: &mut [u8]) -> Written
-    ensures { λ r. ⌜ (r ≡ written true (lineOf (take count fields)) (now (output .entry)))
-        × (now (output .exit) ≡ outputAfter true (lineOf (take count fields)) (now (output .entry)))
-        × (length (lineOf (take count fields)) ≤ 231) ⌝ }
-{
-    let last = at_most_eleven(count);
     let mut line = [0u8; MOST];
     let mut at = 0;
     let mut i = 0;
-    while i < last {
+    while i < 15 {
         let field = fields[i];
-        at = put_ended(&mut line, at, field_text(field), end_of(i, last));
+        at = put_ended(&mut line, at, field_text(field), end_of(i));
         i += 1;
     }
     write_text(&line[..at], output)

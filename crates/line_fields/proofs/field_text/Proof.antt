@@ -1,16 +1,22 @@
 use native.Mathlib.Omega.{arith}
 use Prim.Native.Nat.{_/_, _%_, _<_}
-use mathlib.Core.Path.{_≡_, _∙_}
+use mathlib.Core.Path.{_≡_, refl, _∙_}
 use Rattle.line_fields.specs.Lines.{fieldText}
 use borrow.Author.Needs.{needs}
 use Rattle.line_fields.proofs.field_text.Statement.{statement}
 use Rattle.line_fields.proofs.field_text.Tie as tie
 
+enum-told : tie.Need-enum-told
+enum-told c = search needs
+
 enum-known-field : tie.Need-enum-known-field
 enum-known-field c = search needs
 
-mark-text-requires : tie.Need-mark-text-requires
-mark-text-requires c κs = search needs
+word-row-requires : tie.Need-word-row-requires
+word-row-requires c κs = search needs
+
+word-text-requires : tie.Need-word-text-requires
+word-text-requires c κs = search needs
 
 enum-known-field-2 : tie.Need-enum-known-field-2
 enum-known-field-2 c = search needs
@@ -42,65 +48,48 @@ enum-known-field-5 c = search needs
 hexadecimal-text-requires-3 : tie.Need-hexadecimal-text-requires-3
 hexadecimal-text-requires-3 c κs = search needs
 
-enum-known-field-6 : tie.Need-enum-known-field-6
-enum-known-field-6 c = search needs
-
-refusal-text-requires : tie.Need-refusal-text-requires
-refusal-text-requires c κs = search needs
-
-enum-known-field-7 : tie.Need-enum-known-field-7
-enum-known-field-7 c = search needs
-
-name-row-requires : tie.Need-name-row-requires
-name-row-requires c κs = search needs
-
-name-text-requires : tie.Need-name-text-requires
-name-text-requires c κs = search needs
-
 returns : tie.Need-returns
 unfolding fieldText
-returns c = rw (c .before .before .field .given .1) (c .mark-text .ensures)
+returns c = rw (c .enum-told .given .1) (refl, omega arith)
 
 returns-2 : tie.Need-returns-2
 unfolding fieldText
-returns-2 c = rw (c .before .before .field2 .given .1) (c .decimal-text .ensures)
+returns-2 c =
+    let w = c .word-text .ensures in
+    rw (c .before .before .before .field .given .1) (w .0 ∙ c .before .word-row .ensures .0, w .1)
 
 returns-3 : tie.Need-returns-3
 unfolding fieldText
-returns-3 c =
+returns-3 c = rw (c .before .before .field2 .given .1) (c .decimal-text .ensures)
+
+returns-4 : tie.Need-returns-4
+unfolding fieldText
+returns-4 c =
     let v = c .before .before .field3 .given .0 .0 in
     let small : v < 256 = search needs in
     let e : v % 256 ≡ v = omega arith in
     rw (c .before .before .field3 .given .1) (rw e at (c .hexadecimal-text .ensures))
 
-returns-4 : tie.Need-returns-4
+returns-5 : tie.Need-returns-5
 unfolding fieldText
-returns-4 c =
+returns-5 c =
     let v = c .before .before .field4 .given .0 .0 in
     let small : v < 65536 = search needs in
     let e : v / 256 % 256 ≡ v / 256 = omega arith in
     rw (c .before .before .field4 .given .1) (rw e at (c .hexadecimal-text2 .ensures))
 
-returns-5 : tie.Need-returns-5
-unfolding fieldText
-returns-5 c = rw (c .before .before .field5 .given .1) (c .hexadecimal-text3 .ensures)
-
 returns-6 : tie.Need-returns-6
 unfolding fieldText
-returns-6 c = rw (c .before .before .field6 .given .1) (c .refusal-text .ensures)
-
-returns-7 : tie.Need-returns-7
-unfolding fieldText
-returns-7 c =
-    let w = c .name-text .ensures in
-    rw (c .before .before .before .field7 .given .1) (w .0 ∙ c .before .name-row .ensures .0, w .1)
+returns-6 c = rw (c .before .before .field5 .given .1) (c .hexadecimal-text3 .ensures)
 
 pub field-text-spec : {M : Type 1} → statement M
 field-text-spec =
     tie.close
     (tie.spec
+    enum-told
     enum-known-field
-    mark-text-requires
+    word-row-requires
+    word-text-requires
     enum-known-field-2
     decimal-text-requires
     enum-known-field-3
@@ -111,15 +100,9 @@ field-text-spec =
     hexadecimal-text-requires-2
     enum-known-field-5
     hexadecimal-text-requires-3
-    enum-known-field-6
-    refusal-text-requires
-    enum-known-field-7
-    name-row-requires
-    name-text-requires
     returns
     returns-2
     returns-3
     returns-4
     returns-5
-    returns-6
-    returns-7)
+    returns-6)

@@ -1,0 +1,86 @@
+-- What is promised of the stock table, in the terms of who reads it: the header and a row cut at their commas. The proofs are `proofs/Promises.antt`.
+use Prim.Native.Nat.{ℕ, zero, suc}
+use Prim.Native.String.{String}
+use mathlib.Core.Bool.{cond}
+use mathlib.Core.List.{List, [], _∷_, _++_}
+use mathlib.Core.Path.{_≡_}
+use lib.Dec.{eqb}
+use lib.ListN.{length, getD}
+use Rattle.octets.specs.Numbers.{Octets}
+use Rattle.octets.specs.Parts.{same}
+use Rattle.octets.specs.Told.{Told, refused, answered}
+use Rattle.provisioning.specs.Message.{messageRead, told}
+use Rattle.provisioning.specs.declared.Capabilities.{Capabilities}
+use Rattle.provisioning.specs.declared.Message.{Message}
+use Rattle.provisioning.specs.declared.Message.the-variants as M
+use Rattle.line_fields.specs.Lines.{ascii, decimalOf, hexadecimalOf, fieldText, wordText}
+use Rattle.line_fields.specs.declared.Word.{Word}
+use Rattle.line_fields.specs.declared.Word.the-variants as W
+use Rattle.stock_table.specs.declared.Origin.{Origin}
+use Rattle.stock_table.specs.declared.Row.{Row}
+use Rattle.stock_table.specs.Rows.{recordRow, messageRow, refusedRow}
+use Rattle.stock_table.specs.Columns.{headerLine, rowLine}
+
+-- ---- a line cut at its commas
+
+-- the texts of a line, of which some characters came before: a comma ends one, and the newline the last
+abbrev pub cutFrom : List ℕ → List ℕ → List (List ℕ)
+cutFrom held [] = held ∷ []
+cutFrom held (c ∷ line) = cond (eqb c 10) (held ∷ []) (cond (eqb c 44) (held ∷ cutFrom [] line) (cutFrom (held ++ (c ∷ [])) line))
+
+abbrev pub cutAtCommas : List ℕ → List (List ℕ)
+cutAtCommas line = cutFrom [] line
+
+-- the place of a text among others
+abbrev pub placeOf : List ℕ → List (List ℕ) → ℕ
+placeOf text [] = zero
+placeOf text (t ∷ ts) = cond (same t text) zero (suc (placeOf text ts))
+
+-- THE TEXT UNDER A NAME: what a line has at the place where the header has that name
+abbrev pub under : String → List ℕ → List ℕ
+under name line = getD (cutAtCommas line) (placeOf (ascii name) (cutAtCommas headerLine)) []
+
+-- "Every row has the same fifteen columns"
+abbrev pub SameColumns : Type 0
+SameColumns = (length (cutAtCommas headerLine) ≡ 15) × ((row : Row) → length (cutAtCommas (rowLine row)) ≡ 15)
+
+-- ---- the rows of a Capabilities message m that the reader accepts: each column's text, from m's own octets
+
+pub record RecordColumns (what : Word) (line : ℕ) (origin : Origin) (m row : List ℕ) : Type 0 where
+  pub whatIs : under "what" row ≡ wordText what
+  pub lineIs : under "line" row ≡ decimalOf line
+  pub socketIs : under "socket" row ≡ fieldText (origin .socket)
+  pub idIs : under "link_id" row ≡ fieldText (origin .id)
+  pub numberIs : under "number" row ≡ fieldText (origin .number)
+  pub refusalIs : under "refusal" row ≡ []
+  pub messageIs : under "message" row ≡ ascii "Capabilities"
+  pub elements : under "elements" row ≡ decimalOf (getD m 1 0)
+  pub algorithms : under "algorithms" row ≡ hexadecimalOf (getD m 2 0 ∷ getD m 3 0 ∷ [])
+  pub publicKeyType : under "public_key_type" row ≡ decimalOf (getD m 4 0)
+  pub staticOobType : under "static_oob_type" row ≡ decimalOf (getD m 5 0)
+  pub outputOobSize : under "output_oob_size" row ≡ decimalOf (getD m 6 0)
+  pub outputOobAction : under "output_oob_action" row ≡ hexadecimalOf (getD m 7 0 ∷ getD m 8 0 ∷ [])
+  pub inputOobSize : under "input_oob_size" row ≡ decimalOf (getD m 9 0)
+  pub inputOobAction : under "input_oob_action" row ≡ hexadecimalOf (getD m 10 0 ∷ getD m 11 0 ∷ [])
+
+abbrev pub RecordsInPlace : Type 0
+RecordsInPlace =
+    (what : Word) (line : ℕ) (origin : Origin) (m : List ℕ) → Octets m → (c : Capabilities) → messageRead m ≡ M.Capabilities c
+    → RecordColumns what line origin m (rowLine (recordRow what line origin c))
+
+-- ---- the other rows of a line
+
+-- a refusal's number stands under `refusal`, and a message's name, as document 01 writes it, under `message`
+abbrev pub nameOf : Told → String
+nameOf (refused n) = ""
+nameOf (answered name values) = name
+
+abbrev pub RefusalsInPlace : Type 0
+RefusalsInPlace =
+    (line : ℕ) (origin : Origin) (n : ℕ)
+    → (under "what" (rowLine (refusedRow line origin n)) ≡ ascii "refused") × (under "refusal" (rowLine (refusedRow line origin n)) ≡ decimalOf n)
+
+abbrev pub MessagesInPlace : Type 0
+MessagesInPlace =
+    (line : ℕ) (origin : Origin) (m : Message)
+    → (under "what" (rowLine (messageRow line origin m)) ≡ ascii "message") × (under "message" (rowLine (messageRow line origin m)) ≡ ascii (nameOf (told m)))
