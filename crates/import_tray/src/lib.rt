@@ -1,52 +1,119 @@
-// The tray of the import step: its link records, and for which sockets a record is awaited.
+// The tray of the import step: its link records, and what the table has of each socket.
+use line_fields::Word;
 use links::Link;
-use octets::Written;
+use provisioning::Capabilities;
+use stock_table::Row;
 use transactions::Socket;
-ghost use mathlib.Core.Bool.{false};
-ghost use mathlib.Core.Bool.{true};
 ghost use mathlib.Core.Path.{_≡_};
-ghost use Prim.Native.Nat.{_≤_};
-ghost use lib.ListN.{length, replicate};
-ghost use Rattle.links.specs.Links.{blank};
-ghost use Rattle.links.specs.declared.Side.the-variants.{Provisioner};
-ghost use Rattle.octets.specs.Writing.{written, outputAfter};
-ghost use Rattle.import_tray.specs.Awaited.{trayOf, isMissing, missingText};
+ghost use lib.ListN.{getD, set};
+ghost use Rattle.import_tray.specs.declared.Stock.the-variants.{Unopened};
+ghost use Rattle.import_tray.specs.Trays.{stockOf, newTray, stockAt, withLinks, withStock, lastReport};
 
-// The link records of a tray, and for each socket whether it was opened and has had no record line since.
+// What the table has of a socket: it was never opened, it has no record since its latest opening, or that record.
+pub enum Stock {
+    Unopened,
+    Missing,
+    Recorded(Capabilities),
+}
+
+// That of one socket: a tray has an array of them.
+pub struct SocketStock {
+    pub stock: Stock,
+}
+
+// The link records of a tray, and what the table has of each socket.
 pub struct Tray {
     pub links: [Link; 8],
-    pub awaited: [bool; 8],
+    pub stock: [SocketStock; 8],
 }
 
-// The tray at the start: eight free sockets, and no record awaited.
+// What a line writes.
+pub enum Report {
+    Nothing,
+    Row(Row),
+}
+
+// The tray after a line, and what the line writes.
+pub struct Step {
+    pub tray: Tray,
+    pub report: Report,
+}
+
+// The tray at the start: eight free sockets, never opened.
 pub fn new_tray() -> Tray
-    ensures { λ r. ⌜ r ≡ trayOf (replicate 8 (blank Provisioner)) (replicate 8 false) ⌝ }
+    ensures { λ r. ⌜ r ≡ newTray ⌝ }
 {
+    let unopened = SocketStock {
+        stock: Stock::Unopened,
+    };
     Tray {
         links: link_records::blank_links(),
-        awaited: [false; 8],
+        stock: [unopened; 8],
     }
 }
 
-fn is_missing(tray: Tray, socket: Socket) -> bool
-    ensures { λ r. ⌜ r ≡ isMissing tray socket ⌝ }
+// The one at a place; unopened if there is no such place.
+fn one_of(all: [SocketStock; 8], place: usize) -> SocketStock
+    ensures { λ r. ⌜ r ≡ getD all place (stockOf Unopened) ⌝ }
 {
-    if socket.is_one_of(8) {
-        let awaited = tray.awaited;
-        awaited[socket.0 as usize - 1]
-    } else {
-        false
+    if place < 8 {
+        return all[place];
+    }
+    SocketStock {
+        stock: Stock::Unopened,
     }
 }
 
-// The line of a socket that was opened and has had no record line since; no text for any other. After the last line of input.
-pub fn missing_line(tray: Tray, socket: Socket, output: &mut [u8]) -> Written
-    ensures { λ r. ⌜ (r ≡ written true (missingText tray socket) (now (output .entry)))
-        × (now (output .exit) ≡ outputAfter true (missingText tray socket) (now (output .entry)))
-        × (length (missingText tray socket) ≤ 231) ⌝ }
+// What the table has of the socket at a place.
+pub fn stock_at(tray: Tray, place: usize) -> Stock
+    ensures { λ r. ⌜ r ≡ stockAt tray place ⌝ }
 {
-    if is_missing(tray, socket) {
-        return import_notes::write_missing(socket, output);
+    let all = tray.stock;
+    let one = one_of(all, place);
+    one.stock
+}
+
+// The tray with other link records.
+pub fn with_links(tray: Tray, links: [Link; 8]) -> Tray
+    ensures { λ r. ⌜ r ≡ withLinks tray links ⌝ }
+{
+    let stock = tray.stock;
+    Tray {
+        links: links,
+        stock: stock,
     }
-    Written::Count(0)
+}
+
+fn with_one(all: [SocketStock; 8], place: usize, stock: Stock) -> [SocketStock; 8]
+    ensures { λ r. ⌜ r ≡ set all place (stockOf stock) ⌝ }
+{
+    let mut after = all;
+    if place < 8 {
+        after[place] = SocketStock { stock: stock };
+    }
+    after
+}
+
+// The tray with other stock of the socket at a place.
+pub fn with_stock(tray: Tray, place: usize, stock: Stock) -> Tray
+    ensures { λ r. ⌜ r ≡ withStock tray place stock ⌝ }
+{
+    let links = tray.links;
+    let all = tray.stock;
+    Tray {
+        links: links,
+        stock: with_one(all, place, stock),
+    }
+}
+
+// What is said of a socket after the last line: that it was never opened, or that its record is missing.
+pub fn last_report(tray: Tray, socket: Socket) -> Report
+    ensures { λ r. ⌜ r ≡ lastReport tray socket ⌝ }
+{
+    let stock = stock_at(tray, socket.place());
+    match stock {
+        Stock::Unopened => Report::Row(stock_table::socket_row(Word::Unopened, socket)),
+        Stock::Missing => Report::Row(stock_table::socket_row(Word::Missing, socket)),
+        Stock::Recorded(_) => Report::Nothing,
+    }
 }
