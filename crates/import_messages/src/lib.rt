@@ -42,10 +42,10 @@ fn same_fields(a: Capabilities, b: Capabilities) -> bool
 }
 
 // What a further Capabilities message is after the record.
-fn further_word(record: Capabilities, capabilities: Capabilities) -> Word
-    ensures { λ r. ⌜ r ≡ furtherWord record capabilities ⌝ }
+fn further_word(first: Capabilities, capabilities: Capabilities) -> Word
+    ensures { λ r. ⌜ r ≡ furtherWord first capabilities ⌝ }
 {
-    if same_fields(record, capabilities) {
+    if same_fields(first, capabilities) {
         return Word::Repeated;
     }
     Word::Conflict
@@ -62,8 +62,8 @@ fn take_capabilities(
     ensures { λ r. ⌜ r ≡ capabilitiesStep tray place line origin capabilities ⌝ }
 {
     let stock = import_tray::stock_at(tray, place);
-    if let Stock::Recorded(record) = stock {
-        let what = further_word(record, capabilities);
+    if let Stock::Recorded(first) = stock {
+        let what = further_word(first, capabilities);
         return Step {
             tray: tray,
             report: Report::Row(stock_table::record_row(what, line, origin, capabilities)),
