@@ -4,11 +4,14 @@ import subprocess
 import sys
 import tempfile
 import unittest
+from collections import Counter
 
+from model import coverage, log_coverage
 from model.generator.chance import Chance
 from model.generator.line_input import random_input
 from model.generator.scripts import mixed_script
-from model.generator.tray_log import random_log
+from model.generator.tray_log import random_log, stored_log
+from model.import_program import answer_log
 from model.replay import answer_script
 
 TESTS = pathlib.Path(__file__).resolve().parent
@@ -39,6 +42,31 @@ class Seeds(unittest.TestCase):
         self.assertEqual(set(followed), {b"ZH"})
 
 
+class Logs(unittest.TestCase):
+    def test_stored_log(self):
+        """Always the same; large; the last line without a newline, and its carriage return kept."""
+        log = stored_log()
+        self.assertEqual(log, stored_log())
+        self.assertGreater(len(log), 200000)
+        self.assertTrue(log.endswith(b"\r"))
+        rows = [row.split(",") for row in answer_log(log).decode("ascii").split("\n")[:-1]]
+        self.assertEqual([row[2] for row in rows if row[0] == "unopened"], ["6", "8"])
+        self.assertEqual({len(row) for row in rows}, {15})
+
+    def test_random_logs_meet_everything(self):
+        met = Counter()
+        for seed in range(6):
+            met.update(log_coverage.met(random_log(Chance(seed), 1500)))
+        self.assertEqual(coverage.never_met(met, log_coverage.required()), [])
+
+    def test_a_case_that_is_missed(self):
+        missed = coverage.never_met(log_coverage.met(b"1 00000005\n>00000005000B00\n"), log_coverage.required())
+        self.assertIn("heard record", missed)
+        self.assertNotIn("opening done", missed)
+        self.assertNotIn("sent Close: link opening", missed)
+        self.assertNotIn("row missing: link free", missed)
+
+
 class Comparison(unittest.TestCase):
     def compare(self, *changes):
         """The comparison's exit code and text, with programs that answer as the model does but for a change of their text."""
@@ -58,7 +86,7 @@ class Comparison(unittest.TestCase):
         self.assertEqual(self.compare("text", "text", "text")[0], 0)
 
     def test_differences(self):
-        for changes in (("text.replace(b'!07', b'R')", "text", "text"), ("text", "text[:-1]", "text"), ("text", "text", "text + b'?,9\\n'")):
+        for changes in (("text.replace(b'!07', b'R')", "text", "text"), ("text", "text[:-1]", "text"), ("text", "text", "text + b'end\\n'")):
             code, shown = self.compare(*changes)
             self.assertEqual(code, 1)
             self.assertEqual(shown.count("differs"), 1)

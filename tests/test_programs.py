@@ -1,13 +1,10 @@
-"""The line program and the import program."""
+"""The line program and the import program, over whole inputs."""
 import unittest
 
-from model.generator.chance import Chance
-from model.generator.tray_log import example_log, random_log
-from model.import_program import HEADER, answer_log
+from model.generator.example_tray import example_log
+from model.import_program import answer_log
 from model.line_program import answer_lines
-from model.provisioning import NAMES
-
-CAPABILITIES = "0101000100000000000000" + "00"
+from model.samples import SAMPLES
 
 
 class LineProgram(unittest.TestCase):
@@ -35,60 +32,65 @@ class LineProgram(unittest.TestCase):
         self.assertEqual(answer_lines(b"aBcD"), answer_lines(b"AbCd"))
 
 
-def tray(*lines):
-    """What the lines write, the header left out."""
-    written = answer_log("\n".join(lines).encode("latin-1")).decode("ascii").split("\n")
-    return written[1:-1]
+HEADER = ("what,line,socket,link_id,number,refusal,message,elements,algorithms,public_key_type,static_oob_type,output_oob_size,"
+          "output_oob_action,input_oob_size,input_oob_action")
+
+
+def written(*lines):
+    """What the import program writes for these lines, the header left out; checked for that header and the last newline."""
+    text = answer_log("\n".join(lines).encode("ascii")).decode("ascii")
+    header, *rows, last = text.split("\n")
+    if (header, last) != (HEADER, ""):
+        raise AssertionError(text)
+    return rows
 
 
 class ImportProgram(unittest.TestCase):
-    RECORD = "3,0x23AF5850,0x80,1,0x0001,0,0,0,0x0000,0,0x0000"
-    SAMPLE = ("3 23AF5850", "23AF58500007", "23AF58508000000CD6" + CAPABILITIES)
+    """Whole logs with whole rows; test_import_lines.py and test_import_links.py have the rules one by one."""
 
     def test_empty(self):
-        self.assertEqual(answer_log(b"").decode("ascii"), HEADER + "\n")
+        self.assertEqual(written(""), ["unopened,,%d,,,,,,,,,,,," % socket for socket in range(1, 9)] + ["end,0,,,,,,,,,,,,,"])
 
-    def test_sample(self):
-        self.assertEqual(tray(*self.SAMPLE), [self.RECORD])
-        self.assertEqual(tray(*[line.lower() for line in self.SAMPLE]), [self.RECORD])
-        self.assertEqual(tray(*self.SAMPLE, self.SAMPLE[2], "#"), [self.RECORD])
+    def test_documented_rows(self):
+        """The rows that docs/IMPORT.md shows, made by a log with those lines and comments in between."""
+        lines = ["#"] * 51
+        lines[:7] = ["1 23AF5850", "2 23AF5851", "3 23AF5852", "4 23AF5853", "5 23AF5854", "6 23AF5855", "7 23AF5856"]
+        lines[7] = "23AF58520007"
+        lines[8] = "23AF58528000000C87010100010001000000000000"
+        lines[24:26] = ["23AF58540007", "23AF58548000000C69010500010000060010000000"]
+        lines[31:35] = ["23AF58500007", "23AF5850810800411003F465E43FF23D3F1B9DC7DFC04DA8758184DBC9",
+                        "23AF5850810AC424164E33C201C2B010CA6B4D43A8A155CAD8ECB279",
+                        "23AF5850810666204796ECCF0D6CF5E16500CC0201D048BCBBD899EEEF"]
+        self.assertEqual(written(*lines), [
+            "record,9,3,0x23AF5852,0x80,,Capabilities,1,0x0001,0,1,0,0x0000,0,0x0000", "refused,26,5,0x23AF5854,0x80,8,,,,,,,,,",
+            "message,35,1,0x23AF5850,0x81,,Public Key,,,,,,,,", "missing,,1,,,,,,,,,,,,", "missing,,2,,,,,,,,,,,,",
+            "missing,,4,,,,,,,,,,,,", "missing,,5,,,,,,,,,,,,", "missing,,6,,,,,,,,,,,,", "missing,,7,,,,,,,,,,,,",
+            "unopened,,8,,,,,,,,,,,,", "end,51,,,,,,,,,,,,,"])
 
-    def test_sockets_without_a_record(self):
-        """Closed ones too; and one that was opened again since its record."""
-        self.assertEqual(tray("8 00000008", "2 00000002", "000000020007", "00000002000B00"), ["?,2", "?,8"])
-        self.assertEqual(tray(*self.SAMPLE, "23AF5850000B00"), [self.RECORD])
-        self.assertEqual(tray(*self.SAMPLE, "23AF5850000B00", "3 23AF5850"), [self.RECORD, "?,3"])
-        self.assertEqual(tray(*self.SAMPLE, "3 23AF5850"), [self.RECORD, "!09,4"])
+    def test_every_column(self):
+        """A value in each field, so that none is in another's place."""
+        self.assertEqual(written("8 0000000a", "0000000A0007", "0000000AFF00000CFD01FE12340001567ABC9DEF01")[:1],
+                         ["record,3,8,0x0000000A,0xFF,,Capabilities,254,0x1234,0,1,86,0x7ABC,157,0xEF01"])
 
-    def test_refusals(self):
-        self.assertEqual(tray("1 00000005", "1 00000006", "2 00000005"), ["!09,2", "!10,3", "?,1"])
-        self.assertEqual(tray("00", "00" * 30, "000000050007"), ["!01,1", "!01,2", "!03,3"])
-        self.assertEqual(tray("1 23AF5850", "23AF58500007", "23AF58508000000CD7" + CAPABILITIES), ["!08,3", "?,1"])
-
-    def test_reader_refusals(self):
-        """An Invite, one that lacks its octet, and a Failed."""
-        self.assertEqual(tray("1 23AF5850", "23AF58500007", "23AF585080000002140000", "23AF5850810000013000", "23AF585082000002700902"),
-                         ["-,3,Invite", "!44,4", "-,5,Failed", "?,1"])
-
-    def test_wrong_lines(self):
-        wrong = ("", " ", "0", "000", "0 00000001", "9 00000001", "1 0000001", "1 000000001", "1  0000001", "1 00000001 ", " #", "0x00", "00\r", "G0")
-        self.assertEqual(tray(*wrong, "#"), ["!11,%d" % number for number in range(1, len(wrong) + 1)])
+    def test_published_exchange(self):
+        """One module, both directions: no row is a refusal."""
+        lines = ["1 " + SAMPLES["link_id"]]
+        for step in SAMPLES["steps"]:
+            lines += [(">" if step["from"] == "provisioner" else "") + frame for frame in step["frames"]]
+        self.assertEqual(written(*lines), [
+            "record,6,1,0x23AF5850,0x80,,Capabilities,1,0x0001,0,0,0,0x0000,0,0x0000",
+            "message,16,1,0x23AF5850,0x81,,Public Key,,,,,,,,", "message,20,1,0x23AF5850,0x82,,Confirmation,,,,,,,,",
+            "message,24,1,0x23AF5850,0x83,,Random,,,,,,,,", "message,29,1,0x23AF5850,0x84,,Complete,,,,,,,,",
+            "unopened,,2,,,,,,,,,,,,", "unopened,,3,,,,,,,,,,,,", "unopened,,4,,,,,,,,,,,,", "unopened,,5,,,,,,,,,,,,",
+            "unopened,,6,,,,,,,,,,,,", "unopened,,7,,,,,,,,,,,,", "unopened,,8,,,,,,,,,,,,", "end,31,,,,,,,,,,,,,"])
 
     def test_example(self):
-        written = answer_log(example_log()).decode("ascii").split("\n")
-        self.assertEqual(sorted(line[0] for line in written if line[:1].isdigit()), list("1234567"))
-        self.assertEqual(sum(line.startswith("!08") for line in written), 1)
-        self.assertEqual(written[-2:], ["?,8", ""])
-
-    def test_random_logs_meet_everything(self):
-        lines = []
-        for seed in range(6):
-            lines += answer_log(random_log(Chance(seed), 1500)).decode("ascii").split("\n")
-        starts = {line.split(",")[0] for line in lines}
-        refusals = {"!%02d" % number for number in (1, 2, 3, 4, 5, 6, 7, 8, 9, 10, 11, 12, 42, 43, 44, 45)}
-        self.assertEqual(starts, refusals | {"", "-", "?", "socket"} | set("12345678"))
-        names = {line.split(",")[2] for line in lines if line.startswith("-")}
-        self.assertEqual(names, set(NAMES) - {"Capabilities"})
+        """Five records, the two refusals that its comments tell of, and the sockets without a record."""
+        rows = [row.split(",") for row in written(*example_log().decode("ascii").split("\n"))]
+        self.assertEqual(sorted(row[2] for row in rows if row[0] == "record"), list("12345"))
+        self.assertEqual([(row[2], row[5]) for row in rows if row[0] == "refused"], [("5", "8"), ("", "3")])
+        self.assertEqual([(row[0], row[2]) for row in rows if row[0] in ("repeated", "conflict")], [("repeated", "4"), ("conflict", "2")])
+        self.assertEqual([row[0:3:2] for row in rows[-4:]], [["unopened", "6"], ["missing", "7"], ["unopened", "8"], ["end", ""]])
 
 
 if __name__ == "__main__":

@@ -3,14 +3,16 @@
 
 usage: tests/vectors.py --check [CRATE..]      whether the stored files are what the model makes, and every case is met
        tests/vectors.py --write [CRATE..]      writes them
-       tests/vectors.py --coverage             how often the stored script meets each answer, refusal and case
+       tests/vectors.py --coverage [CRATE..]   how often the stored script and log meet each answer, row, refusal and case
 
 CRATE is replay, segment_lines or import_capabilities; without any, those whose folder exists under crates/.
 """
 import pathlib
 import sys
+from collections import Counter
+from typing import NamedTuple
 
-from model import coverage
+from model import coverage, log_coverage
 from model.generator import line_input, scripts, tray_log
 from model.import_program import answer_log
 from model.line_program import answer_lines
@@ -18,19 +20,27 @@ from model.line_program import answer_lines
 CRATES = pathlib.Path(__file__).resolve().parent.parent / "crates"
 
 
+class Vectors(NamedTuple):
+    """A program's input and output, what the input meets, and what it has to meet."""
+    stdin: bytes
+    stdout: bytes
+    met: Counter = Counter()
+    required: tuple = ()
+
+
 def replay():
     script = scripts.stored_script()
-    return script.text(), script.answer_text()
+    return Vectors(script.text(), script.answer_text(), script.met, scripts.required())
 
 
 def segment_lines():
     text = line_input.stored_input()
-    return text, answer_lines(text)
+    return Vectors(text, answer_lines(text))
 
 
 def import_capabilities():
-    text = tray_log.example_log()
-    return text, answer_log(text)
+    text = tray_log.stored_log()
+    return Vectors(text, answer_log(text), log_coverage.met(text), log_coverage.required())
 
 
 MAKERS = {"replay": replay, "segment_lines": segment_lines, "import_capabilities": import_capabilities}
@@ -42,19 +52,21 @@ def stored(crate):
     return tuple(file.read_bytes() if file.exists() else None for file in files)
 
 
-def check(crates):
+def check(crate):
     """The complaints, one a line."""
-    complaints = ["crates/%s: the stored stdin or stdout is not what tests/vectors.py makes" % crate
-                  for crate in crates if stored(crate) != MAKERS[crate]()]
-    missed = coverage.never_met(scripts.stored_script().met, scripts.required())
-    return complaints + ["crates/replay: never met: " + case for case in missed]
+    made = MAKERS[crate]()
+    complaints = []
+    if stored(crate) != (made.stdin, made.stdout):
+        complaints.append("crates/%s: the stored stdin or stdout is not what tests/vectors.py makes" % crate)
+    missed = coverage.never_met(made.met, made.required)
+    return complaints + ["crates/%s: never met: %s" % (crate, case) for case in missed]
 
 
-def write(crates):
-    for crate in crates:
-        (CRATES / crate).mkdir(exist_ok=True)
-        for name, octets in zip(("stdin", "stdout"), MAKERS[crate]()):
-            (CRATES / crate / name).write_bytes(octets)
+def write(crate):
+    made = MAKERS[crate]()
+    (CRATES / crate).mkdir(exist_ok=True)
+    (CRATES / crate / "stdin").write_bytes(made.stdin)
+    (CRATES / crate / "stdout").write_bytes(made.stdout)
 
 
 def main(arguments):
@@ -62,12 +74,14 @@ def main(arguments):
     if not arguments or any(crate not in MAKERS for crate in crates):
         sys.exit(__doc__)
     if arguments[0] == "--check":
-        complaints = check(crates)
+        complaints = [complaint for crate in crates for complaint in check(crate)]
         sys.exit("\n".join(complaints) if complaints else 0)
     if arguments[0] == "--write":
-        write(crates)
-    elif arguments == ["--coverage"]:
-        sys.stdout.write(coverage.table(scripts.stored_script().met, scripts.required()))
+        for crate in crates:
+            write(crate)
+    elif arguments[0] == "--coverage":
+        for made in [MAKERS[crate]() for crate in crates]:
+            sys.stdout.write(coverage.table(made.met, made.required))
     else:
         sys.exit(__doc__)
 
