@@ -71,23 +71,12 @@ fn take_capabilities(
     }
     Step {
         tray: import_tray::with_stock(tray, place, Stock::Recorded(capabilities)),
-        report: Report::Row(stock_table::record_row(
-            Word::Record,
-            line,
-            origin,
-            capabilities,
-        )),
+        report: Report::Row(stock_table::record_row(Word::Record, line, origin, capabilities)),
     }
 }
 
 // A message that the line of that number delivered at a place.
-pub fn take_message(
-    tray: Tray,
-    place: usize,
-    line: u64,
-    origin: Origin,
-    message: Message,
-) -> Step
+pub fn take_message(tray: Tray, place: usize, line: u64, origin: Origin, message: Message) -> Step
     ensures { λ r. ⌜ r ≡ messageStep tray place line origin message ⌝ }
 {
     let reading = reading_of(message);

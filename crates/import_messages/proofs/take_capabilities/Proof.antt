@@ -40,7 +40,7 @@ record-row-requires : tie.Need-record-row-requires
 record-row-requires c κs = search needs
 
 returns : tie.Need-returns
-returns c = 
+returns c =
     let e = sym (c .before .before .before .before .before .stock-at .ensures) ∙ c .before .before .before .stock .given .1 in
     rw (e, c .record-row .ensures, c .before .further-word .ensures)
 
@@ -51,7 +51,7 @@ record-row-requires-2 : tie.Need-record-row-requires-2
 record-row-requires-2 c κs = search needs
 
 returns-2 : tie.Need-returns-2
-returns-2 c = 
+returns-2 c =
     let a = c .before .before .before .before .args in
     let h = c .before .before .match .keys2 in
     rw (c .record-row2 .ensures, c .before .with-stock .ensures, ← (c .before .before .before .stock-at .ensures)) (sym (first (c .before .before .before .stock-at .result) h (a .tray) (a .place) (a .line) (a .origin) (a .capabilities)))

@@ -25,17 +25,17 @@ message-row-requires : tie.Need-message-row-requires
 message-row-requires c κs = search needs
 
 returns : tie.Need-returns
-returns c = 
+returns c =
     let e = sym (c .before .before .before .before .reading-of .ensures) ∙ c .before .before .reading .given .1 in
     rw e (c .take-capabilities .ensures)
 
 returns-2 : tie.Need-returns-2
-returns-2 c = 
+returns-2 c =
     let e = sym (c .before .before .before .before .reading-of .ensures) ∙ c .before .before .reading2 .given .1 in
     rw (e, c .refused-row .ensures)
 
 returns-3 : tie.Need-returns-3
-returns-3 c = 
+returns-3 c =
     let e = sym (c .before .before .before .reading-of .ensures) ∙ c .before .enum-told .given .1 in
     rw (e, c .message-row .ensures)
 

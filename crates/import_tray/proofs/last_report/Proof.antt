@@ -25,19 +25,19 @@ enum-told-3 : tie.Need-enum-told-3
 enum-told-3 c = search needs
 
 returns : tie.Need-returns
-returns c = 
+returns c =
     let s = c .before .before .before .stock-at in
     let e = sym (s .ensures) ∙ c .before .enum-told .given .1 in
     rw (c .socket-row .ensures, ← (c .before .before .before .before .place .ensures), e)
 
 returns-2 : tie.Need-returns-2
-returns-2 c = 
+returns-2 c =
     let s = c .before .before .before .stock-at in
     let e = sym (s .ensures) ∙ c .before .enum-told2 .given .1 in
     rw (c .socket-row2 .ensures, ← (c .before .before .before .before .place .ensures), e)
 
 returns-3 : tie.Need-returns-3
-returns-3 c = 
+returns-3 c =
     let s = c .before .before .stock-at in
     let e = sym (s .ensures) ∙ c .enum-told3 .given .1 in
     rw (← (c .before .before .before .place .ensures), e)

@@ -14,7 +14,7 @@ returns : tie.Need-returns
 returns c = search needs
 
 returns-2 : tie.Need-returns-2
-returns-2 c = 
+returns-2 c =
     let a = c .before .args in
     let n : length (a .t1) ≤ a .place = search needs in
     rw (List·getD-eq-default (a .t1) _ n)

@@ -16,7 +16,7 @@ returns : tie.Need-returns
 returns c = search needs
 
 returns-2 : tie.Need-returns-2
-returns-2 c = 
+returns-2 c =
     let a = c .before .args in
     let n : length (a .all) ≡ 8 = search needs in
     sym (set-out (a .all) (a .place) (record { stock = a .stock }) (omega (arith, n, c .if1 .left)))

@@ -1,0 +1,86 @@
+// Where a frame comes from: the record that has its Link ID, and what a row says of it.
+use line_fields::Field;
+use links::Found;
+use links::Link;
+use pb_adv::Parsed;
+use stock_table::Origin;
+ghost use mathlib.Core.Path.{_≡_};
+ghost use Rattle.links.specs.Promises.{addressed};
+ghost use Rattle.import_frames.specs.Origins.{FoundWithin, socketField, frameOrigin};
+
+// The record in use that has the frame's Link ID.
+pub fn find_record(links: [Link; 8], parsed: Parsed) -> Found
+    ensures { λ r. ⌜ (r ≡ addressed links parsed) × FoundWithin r ⌝ }
+{
+    match parsed {
+        Parsed::Segment(segment) => link_search::find_link(links, segment.id),
+        Parsed::Acknowledgement { id, number: _ } => link_search::find_link(links, id),
+        Parsed::Open { id, uuid: _ } => link_search::find_link(links, id),
+        Parsed::Ack { id } => link_search::find_link(links, id),
+        Parsed::Close { id, reason: _ } => link_search::find_link(links, id),
+        Parsed::Refused(_) => Found::Nowhere,
+    }
+}
+
+fn socket_field(found: Found) -> Field
+    requires { ⌜ FoundWithin found ⌝ }
+    ensures { λ r. ⌜ r ≡ socketField found ⌝ }
+{
+    let Found::At(place) = found else {
+        return Field::Empty;
+    };
+    Field::Decimal(place as u64 + 1)
+}
+
+// What a row says of a frame's origin, by the record that was found.
+pub fn frame_origin(found: Found, parsed: Parsed) -> Origin
+    requires { ⌜ FoundWithin found ⌝ }
+    ensures { λ r. ⌜ r ≡ frameOrigin found parsed ⌝ }
+{
+    let socket = socket_field(found);
+    match parsed {
+        Parsed::Segment(segment) => {
+            let number = segment.number;
+            Origin {
+                socket: socket,
+                id: Field::Number(segment.id),
+                number: Field::Octet(number.0),
+            }
+        }
+        Parsed::Acknowledgement { id, number } => {
+            Origin {
+                socket: socket,
+                id: Field::Number(id),
+                number: Field::Octet(number.0),
+            }
+        }
+        Parsed::Open { id, uuid: _ } => {
+            Origin {
+                socket: socket,
+                id: Field::Number(id),
+                number: Field::Empty,
+            }
+        }
+        Parsed::Ack { id } => {
+            Origin {
+                socket: socket,
+                id: Field::Number(id),
+                number: Field::Empty,
+            }
+        }
+        Parsed::Close { id, reason: _ } => {
+            Origin {
+                socket: socket,
+                id: Field::Number(id),
+                number: Field::Empty,
+            }
+        }
+        Parsed::Refused(_) => {
+            Origin {
+                socket: Field::Empty,
+                id: Field::Empty,
+                number: Field::Empty,
+            }
+        }
+    }
+}
