@@ -1,8 +1,8 @@
 -- What is promised of the stock table, in the terms of who reads it: the header and a row cut at their commas. The proofs are `proofs/Promises.antt`.
-use Prim.Native.Nat.{ℕ, zero, suc}
+use Prim.Native.Nat.{ℕ, zero, suc, _<_}
 use Prim.Native.String.{String}
 use mathlib.Core.Bool.{cond}
-use mathlib.Core.List.{List, [], _∷_, _++_}
+use mathlib.Core.List.{List, [], _∷_, _++_, map}
 use mathlib.Core.Path.{_≡_}
 use lib.Dec.{eqb}
 use lib.ListN.{length, getD}
@@ -15,18 +15,21 @@ use Rattle.provisioning.specs.declared.Message.{Message}
 use Rattle.provisioning.specs.declared.Message.the-variants as M
 use Rattle.line_fields.specs.Lines.{ascii, decimalOf, hexadecimalOf, fieldText, wordText}
 use Rattle.line_fields.specs.declared.Word.{Word}
-use Rattle.line_fields.specs.declared.Word.the-variants as W
+use Rattle.line_fields.specs.declared.Field.the-variants as F
 use Rattle.stock_table.specs.declared.Origin.{Origin}
 use Rattle.stock_table.specs.declared.Row.{Row}
-use Rattle.stock_table.specs.Rows.{recordRow, messageRow, refusedRow}
-use Rattle.stock_table.specs.Columns.{headerLine, rowLine}
+use Rattle.stock_table.specs.Rows.{originOf, recordRow, messageRow, refusedRow}
+use Rattle.stock_table.specs.Columns.{columns, headerLine, rowLine}
 
 -- ---- a line cut at its commas
 
 -- the texts of a line, of which some characters came before: a comma ends one, and the newline the last
 abbrev pub cutFrom : List ℕ → List ℕ → List (List ℕ)
 cutFrom held [] = held ∷ []
-cutFrom held (c ∷ line) = cond (eqb c 10) (held ∷ []) (cond (eqb c 44) (held ∷ cutFrom [] line) (cutFrom (held ++ (c ∷ [])) line))
+cutFrom held (c ∷ line) =
+    let ended = held ∷ cutFrom [] line in
+    let longer = cutFrom (held ++ (c ∷ [])) line in
+    cond (eqb c 10) (held ∷ []) (cond (eqb c 44) ended longer)
 
 abbrev pub cutAtCommas : List ℕ → List (List ℕ)
 cutAtCommas line = cutFrom [] line
@@ -43,6 +46,10 @@ under name line = getD (cutAtCommas line) (placeOf (ascii name) (cutAtCommas hea
 -- "Every row has the same fifteen columns"
 abbrev pub SameColumns : Type 0
 SameColumns = (length (cutAtCommas headerLine) ≡ 15) × ((row : Row) → length (cutAtCommas (rowLine row)) ≡ 15)
+
+-- under every column's name stands the text of that column's field
+abbrev pub UnderColumn : Type 0
+UnderColumn = (row : Row) → map (λ c. under (c .name) (rowLine row)) columns ≡ map (λ c. fieldText (c .field row)) columns
 
 -- ---- the rows of a Capabilities message m that the reader accepts: each column's text, from m's own octets
 
@@ -84,3 +91,33 @@ abbrev pub MessagesInPlace : Type 0
 MessagesInPlace =
     (line : ℕ) (origin : Origin) (m : Message)
     → (under "what" (rowLine (messageRow line origin m)) ≡ ascii "message") × (under "message" (rowLine (messageRow line origin m)) ≡ ascii (nameOf (told m)))
+
+-- ---- a row of a Capabilities message loses nothing of it
+
+-- what such a row is made from: a message that the reader accepts, where it came from, and what is said of it
+pub record Source : Type 0 where
+  pub what : Word
+  pub line : ℕ
+  pub socket : ℕ
+  pub id : ℕ
+  pub number : ℕ
+  pub octets : List ℕ
+  pub capabilities : Capabilities
+  pub idRange : id < 4294967296
+  pub numberRange : number < 256
+  pub areOctets : Octets octets
+  pub accepted : messageRead octets ≡ M.Capabilities capabilities
+
+abbrev pub rowFor : Source → Row
+rowFor x = recordRow (x .what) (x .line) (originOf (F.Decimal (x .socket)) (F.Number (x .id)) (F.Octet (x .number))) (x .capabilities)
+
+-- two equal rows say the same of the same octets from the same place
+abbrev pub RowsLoseNothing : Type 0
+RowsLoseNothing =
+    (x y : Source) → rowLine (rowFor x) ≡ rowLine (rowFor y)
+    → (x .octets ≡ y .octets)
+    × (x .what ≡ y .what)
+    × (x .line ≡ y .line)
+    × (x .socket ≡ y .socket)
+    × (x .id ≡ y .id)
+    × (x .number ≡ y .number)
