@@ -94,7 +94,10 @@ plain-hexadecimal : (l : List ℕ) → isPlain (hexadecimalOf l) ≡ true
 plain-hexadecimal l = plain-text l
 
 abbrev allWords : List Word
-allWords = W.Record ∷ W.Repeated ∷ W.Conflict ∷ W.Message ∷ W.Refused ∷ W.Missing ∷ W.Unopened ∷ W.End ∷ W.Invite ∷ W.Capabilities ∷ W.Start ∷ W.PublicKey ∷ W.InputComplete ∷ W.Confirmation ∷ W.Random ∷ W.Data ∷ W.Complete ∷ W.Failed ∷ []
+allWords =
+    W.Record ∷ W.Repeated ∷ W.Conflict ∷ W.Message ∷ W.Refused ∷ W.Missing ∷ W.Unopened ∷ W.End
+    ∷ W.Invite ∷ W.Capabilities ∷ W.Start ∷ W.PublicKey ∷ W.InputComplete ∷ W.Confirmation ∷ W.Random ∷ W.Data ∷ W.Complete ∷ W.Failed
+    ∷ []
 
 -- the word that a text spells
 abbrev wordIn : List Word → List ℕ → Word
@@ -268,8 +271,12 @@ number-same n k p q h =
 
 -- ---- a row loses nothing
 
-columns-of : (x : Source) → RecordColumns (x .what) (x .line) (rowFor x .origin) (x .octets) (rowLine (rowFor x))
-columns-of x = records-in-place (x .what) (x .line) (rowFor x .origin) (x .octets) (x .areOctets) (x .capabilities) (x .accepted)
+-- the row shows the source
+abbrev Shows : Source → List ℕ → Type 0
+Shows x row = RecordColumns (x .what) (x .line) (rowFor x .origin) (x .octets) row
+
+shown : (x : Source) → Shows x (rowLine (rowFor x))
+shown x = records-in-place (x .what) (x .line) (rowFor x .origin) (x .octets) (x .areOctets) (x .capabilities) (x .accepted)
 
 -- a Capabilities message by its fields
 abbrev octetsFor : List ℕ → List ℕ
@@ -286,11 +293,8 @@ pair-same : (x y : Source) (i j : ℕ)
     → getD (x .octets) i 0 ∷ getD (x .octets) j 0 ∷ [] ≡ getD (y .octets) i 0 ∷ getD (y .octets) j 0 ∷ []
 pair-same x y i j h = hexadecimal-same _ _ (two-octets (x .octets) i j (x .areOctets)) (two-octets (y .octets) i j (y .areOctets)) h
 
-pub rows-lose-nothing : RowsLoseNothing
-unfolding fieldText
-rows-lose-nothing x y h =
-    let r = columns-of x in
-    let s = rw (← h) at (columns-of y) in
+same-octets : (x y : Source) (row : List ℕ) → Shows x row → Shows y row → x .octets ≡ y .octets
+same-octets x y row r s =
     let elements = decimal-same _ _ (sym (r .elements) ∙ s .elements) in
     let algorithms = at (pair-same x y 2 3 (sym (r .algorithms) ∙ s .algorithms)) in
     let keyType = decimal-same _ _ (sym (r .publicKeyType) ∙ s .publicKeyType) in
@@ -299,8 +303,8 @@ rows-lose-nothing x y h =
     let outputAction = at (pair-same x y 7 8 (sym (r .outputOobAction) ∙ s .outputOobAction)) in
     let inputSize = decimal-same _ _ (sym (r .inputOobSize) ∙ s .inputOobSize) in
     let inputAction = at (pair-same x y 10 11 (sym (r .inputOobAction) ∙ s .inputOobAction)) in
-    let values : capabilitiesValues (x .octets) ≡ capabilitiesValues (y .octets) =
-    λ i. elements i
+    octets-of x
+    ∙ (λ i. octetsFor (elements i
     ∷ (algorithms 0 i * 256 + algorithms 1 i)
     ∷ keyType i
     ∷ staticType i
@@ -308,12 +312,21 @@ rows-lose-nothing x y h =
     ∷ (outputAction 0 i * 256 + outputAction 1 i)
     ∷ inputSize i
     ∷ (inputAction 0 i * 256 + inputAction 1 i)
-    ∷ []
-    in (
-      octets-of x ∙ ap octetsFor values ∙ sym (octets-of y),
-      sym (word-text (x .what) .1) ∙ ap (wordIn allWords) (sym (r .whatIs) ∙ s .whatIs) ∙ word-text (y .what) .1,
-      decimal-same _ _ (sym (r .lineIs) ∙ s .lineIs),
-      decimal-same _ _ (sym (r .socketIs) ∙ s .socketIs),
+    ∷ []))
+    ∙ sym (octets-of y)
+
+same-word : (word other : Word) → wordText word ≡ wordText other → word ≡ other
+same-word word other h = sym (word-text word .1) ∙ ap (wordIn allWords) h ∙ word-text other .1
+
+pub rows-lose-nothing : RowsLoseNothing
+unfolding fieldText
+rows-lose-nothing x y h =
+    let r = shown x in
+    let s : Shows y (rowLine (rowFor x)) = rw h (shown y) in (
+      same-octets x y (rowLine (rowFor x)) r s,
+      same-word (x .what) (y .what) (sym (r .whatIs) ∙ s .whatIs),
+      decimal-same (x .line) (y .line) (sym (r .lineIs) ∙ s .lineIs),
+      decimal-same (x .socket) (y .socket) (sym (r .socketIs) ∙ s .socketIs),
       number-same (x .id) (y .id) (x .idRange) (y .idRange) (sym (r .idIs) ∙ s .idIs),
       octet-same (x .number) (y .number) (x .numberRange) (y .numberRange) (sym (r .numberIs) ∙ s .numberIs),
     )
