@@ -1,18 +1,22 @@
 -- The laws of pieces of input, and of text that waits.
 use Prim.Native.Nat.{ℕ, suc, _+_, _-_, _≤_, _<_}
 use native.Mathlib.Omega.{arith}
-use mathlib.Core.Bool.{true, false, false≢true, and-eq-true-iff}
+use mathlib.Core.Bool.{Bool, true, false, false≢true, and-eq-true-iff}
 use mathlib.Core.List.{List, _++_, append-assoc, append-nil}
 use mathlib.Core.Path.{_≡_, refl, sym, ap, _∙_, subst}
-use lib.Dec.{leb}
+use lib.Dec.{leb, eqb}
+use lib.IntN.{ℤ, pos, negsuc}
 use lib.ListN.{length, take, drop, getD, drop-of-length-le}
 use lib.Seq.{length-take-le, drop-cons, getD-take}
-use borrow.Author.Tests.{le-leb, ne-eqb, leb-true, ltb-true}
+use borrow.Author.Tests.{le-leb, ne-eqb, eqb-true, leb-true, ltb-true}
+use mir.Syntax.{w64}
+use mir.Val.{SFits, ofZ}
+use Rattle.io.specs.Counts.{clamped}
 use Rattle.octets.proofs.Tests.{cases, both-hold}
 use Rattle.octets.specs.Parts.{part, write}
 use Rattle.octets.proofs.Parts.{part-length, write-length, write-front, write-longer, write-behind}
 use Rattle.lines.specs.declared.Streams.{Streams}
-use Rattle.lines.specs.Streams.{newlineFrom, pieceFrom, nextPlace, Within, withWaiting, Flushed, hasRoom, RoomMade, waitingAfter, TextWaits, EndWaits, isLeft, Read, Found}
+use Rattle.lines.specs.Streams.{newlineFrom, pieceFrom, nextPlace, Within, withWaiting, Flushed, hasRoom, RoomMade, waitingAfter, TextWaits, EndWaits, isLeft, withOver, isEnd, pieceRead, Read, Found}
 
 -- ---- the place of the first newline
 
@@ -48,9 +52,10 @@ piece-within s r input output from filled e some few fits waits = record {
 }
 
 -- the first piece of what was read
-pub piece-read : (s f r : Streams) (output after : List ℕ) (filled : ℕ) → Flushed s output f → filled ≤ length after → (f .taken ≡ false → filled ≡ 0)
-    → r ≡ pieceFrom f after 0 filled → Read s output r after
-piece-read s f r output after filled x few none e =
+pub read-piece : (s f r : Streams) (output after : List ℕ) (filled : ℕ) (over : Bool) → Flushed s output f → filled ≤ length after
+    → (f .taken ≡ false → (filled ≡ 0) × (over ≡ false)) → (over ≡ true → filled ≡ 0) → r ≡ withOver (pieceFrom f after 0 filled) over
+    → Read s output r after
+read-piece s f r output after filled over x few none empty e =
     subst (λ (r : Streams). Read s output r after) (sym e) record {
       first = λ i. record {
         from = 0;
@@ -58,14 +63,36 @@ piece-read s f r output after filled x few none e =
         ends = pieceFrom f after 0 filled .ends;
         filled = filled;
         found = pieceFrom f after 0 filled .found;
+        over = over;
         waiting = (x .emptied) i .waiting;
         taken = f .taken;
       };
       fits = few;
       untaken = x .untaken;
       past = x .past;
-      unread = none;
+      unread = λ n. none n .0;
+      untaken-open = λ n. none n .1;
+      over-empty = empty;
     }
+
+-- the system's answer counts no more than there is room for, and nothing at the input's end
+pub answer-fits : (got : ℤ) (room : ℕ) → clamped got room ≤ room
+answer-fits (pos count) room = omega arith
+answer-fits (negsuc n) room = omega arith
+
+end-empty : (got : ℤ) (room : ℕ) → isEnd got ≡ true → clamped got room ≡ 0
+end-empty (pos count) room e = omega (arith, eqb-true count 0 e)
+end-empty (negsuc n) room e = refl
+
+pub read-answered : (s f r : Streams) (output after : List ℕ) (got : ℤ) → Flushed s output f → f .taken ≡ true → r ≡ pieceRead f got after → Read s output r after
+read-answered s f r output after got x taken e =
+    read-piece s f r output after (clamped got (length after)) (isEnd got) x (answer-fits got (length after)) (λ n. absurd (false≢true (sym n ∙ taken)))
+    (end-empty got (length after)) e
+
+-- the test of the answer is one of its bits
+pub end-bits : (got : ℤ) → SFits w64 got → eqb (ofZ w64 got) 0 ≡ isEnd got
+end-bits (pos count) fits = refl
+end-bits (negsuc n) fits = ne-eqb (ofZ w64 (negsuc n)) 0 (λ e. omega (arith, fits .sfits))
 
 -- ---- the next piece
 

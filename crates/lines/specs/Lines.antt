@@ -9,13 +9,21 @@ use Rattle.octets.specs.Cut.{joined}
 use Rattle.lines.specs.Streams.{nothingRead, pieceIn, withWaiting, isLeft, Found, isWhole}
 use Rattle.lines.specs.declared.Streams.{Streams}
 
--- the lines of a text, of which some characters came before: "ended by a newline or the end of input (nothing after the last newline is no line)"
-abbrev pub linesFrom : List ℕ → List ℕ → List (List ℕ)
-linesFrom held [] = cond (ltb 0 (length held)) (held ∷ []) []
-linesFrom held (c ∷ text) = cond (eqb c 10) (held ∷ linesFrom [] text) (linesFrom (held ++ (c ∷ [])) text)
+-- the lines of a text, of which some characters came before: "ended by a newline or the end of input (nothing after the last newline is no line)".
+-- What becomes of a line that a newline ends, the program says
+abbrev pub linesFrom : (List ℕ → List ℕ) → List ℕ → List ℕ → List (List ℕ)
+linesFrom ended held [] = cond (ltb 0 (length held)) (held ∷ []) []
+linesFrom ended held (c ∷ text) = cond (eqb c 10) (ended held ∷ linesFrom ended [] text) (linesFrom ended (held ++ (c ∷ [])) text)
+
+abbrev pub linesBy : (List ℕ → List ℕ) → List ℕ → List (List ℕ)
+linesBy ended text = linesFrom ended [] text
+
+-- a line stays what it is
+abbrev pub asItStands : List ℕ → List ℕ
+asItStands line = line
 
 abbrev pub linesOf : List ℕ → List (List ℕ)
-linesOf text = linesFrom [] text
+linesOf text = linesBy asItStands text
 
 -- how far the reading has come: what was read at each time, the lines that were whole, and the characters held of the next one
 pub record Reading : Type 0 where
@@ -31,15 +39,15 @@ oneIf true l = l ∷ []
 oneIf false l = []
 
 -- the reading after a piece more, found as a call of the streams s says
-abbrev pub readOn : Reading → Streams → List ℕ → Streams → List ℕ → Reading
-readOn x s output r after =
+abbrev pub readOn : (List ℕ → List ℕ) → Reading → Streams → List ℕ → Streams → List ℕ → Reading
+readOn ended x s output r after =
     let line : List ℕ = x .held ++ pieceIn r after in
     let whole : Bool = isWhole r (length line) in
     record {
       streams = r;
       input = after;
       read = x .read ++ cond (isLeft s (x .input) output) [] (take (r .filled) after ∷ []);
-      whole = x .whole ++ oneIf whole line;
+      whole = x .whole ++ oneIf whole (cond (r .ends) (ended line) line);
       held = cond whole [] line;
     }
 
@@ -49,12 +57,19 @@ atStart input = record { streams = nothingRead; input = input; read = []; whole 
 
 -- readings that follow from the start, each by a call as it was answered, for as long as pieces are found. Between two calls the program may put text
 -- to be written out
-pub data Follows (input : List ℕ) : Reading → Type 0 where
-  begins : Follows input (atStart input)
-  goes : {x : Reading} → Follows input x → x .streams .found ≡ true → (s : Streams) → s ≡ withWaiting (x .streams) (s .waiting) (s .taken)
+pub data Follows (ended : List ℕ → List ℕ) (input : List ℕ) : Reading → Type 0 where
+  begins : Follows ended input (atStart input)
+  goes : {x : Reading} → Follows ended input x → x .streams .found ≡ true → (s : Streams) → s ≡ withWaiting (x .streams) (s .waiting) (s .taken)
       → (output : List ℕ) → s .waiting ≤ length output → (r : Streams) (after : List ℕ) → Found s (x .input) output r after
-      → Follows input (readOn x s output r after)
+      → Follows ended input (readOn ended x s output r after)
 
 -- at the end of the input the whole lines are the lines of all that was read
 abbrev pub LinesFound : Type 0
-LinesFound = (input : List ℕ) (x : Reading) → Follows input x → x .streams .found ≡ false → x .whole ≡ linesOf (joined (x .read))
+LinesFound =
+    (ended : List ℕ → List ℕ) (input : List ℕ) (x : Reading) → Follows ended input x → x .streams .over ≡ true → x .whole ≡ linesBy ended (joined (x .read))
+
+-- before it, as where a read failed, they are the first lines of all that was read with whatever would have come behind it
+abbrev pub LinesBegun : Type 0
+LinesBegun =
+    (ended : List ℕ → List ℕ) (input : List ℕ) (x : Reading) → Follows ended input x → x .streams .over ≡ false
+    → (more : List ℕ) → (rest : List (List ℕ)) × (linesBy ended (joined (x .read) ++ more) ≡ x .whole ++ rest)

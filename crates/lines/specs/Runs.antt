@@ -26,7 +26,7 @@ pub data Runs (P : Program) (ρ : Start P) : ℕ → Reading → List ℕ → P 
   goes : {n : ℕ} {x : Reading} {text : List ℕ} {σ : P .State} → Runs P ρ n x text σ → P .streams σ .found ≡ true
       → (τ : P .State) (t : P .Turn σ τ) → Runs P ρ (suc n) (P .readBy σ τ t x) (text ++ P .putBy σ τ t) τ
 
--- a run to a state, with so many turns left of 2^64 - 1: to the end of the input none is left
+-- a run to a state, with so many turns left of 2^64 - 1: none is left where nothing was found
 pub record RunsTo (P : Program) (ρ : Start P) (σ : P .State) (left : ℕ) : Type 0 where
   pub turns : ℕ
   pub reading : Reading

@@ -1,11 +1,15 @@
-// Lines of text from standard input, and text to standard output, through buffers that the program lends. A line comes in pieces, since no
-// buffer holds every line; the text that waits is written out before more input is awaited.
+// Lines of text from an input, and text to standard output, through buffers that the program lends. A line comes in pieces, since no
+// buffer holds every line; the text that waits is written out before more input is awaited. Where the system fails to read or to write, a line
+// on standard error says so.
 use libc::STDIN_FILENO;
 use libc::STDOUT_FILENO;
 ghost use mathlib.Core.Path.{_≡_};
 ghost use Prim.Native.Nat.{_+_, _≤_};
 ghost use lib.ListN.{length};
-ghost use Rattle.lines.specs.Streams.{nothingRead, newlineFrom, pieceFrom, nextPlace, Within, withWaiting, Flushed, RoomMade, waitingAfter, isLeft, Read, Found, isWhole};
+ghost use Rattle.lines.specs.Streams.{nothingRead, newlineFrom, pieceFrom, nextPlace, Within, withWaiting, Flushed, RoomMade, waitingAfter, isLeft, pieceRead, Read, Found, isWhole};
+
+// The descriptor of standard input.
+pub const STANDARD_INPUT: i32 = STDIN_FILENO;
 
 // How far a program has come in its input and its output.
 pub struct Streams {
@@ -16,8 +20,10 @@ pub struct Streams {
     pub ends: bool,
     // How many octets of input the buffer has.
     pub filled: usize,
-    // Whether a piece was found: not at the end of input, nor where standard output takes no more.
+    // Whether a piece was found: not at the end of input, nor where a read failed, nor where standard output takes no more.
     pub found: bool,
+    // Whether the input's end was met: the system read nothing more.
+    pub over: bool,
     // Octets of text that wait at the start of the output buffer.
     pub waiting: usize,
     // Whether standard output has taken all so far.
@@ -34,6 +40,7 @@ pub fn start() -> Streams
         ends: false,
         filled: 0,
         found: true,
+        over: false,
         waiting: 0,
         taken: true,
     }
@@ -66,7 +73,17 @@ fn piece_from(streams: Streams, input: &[u8], from: usize, filled: usize) -> Str
     after.ends = to < filled;
     after.filled = filled;
     after.found = from < filled;
+    after.over = false;
     after
+}
+
+// Writes a text out, and answers whether standard output took it. What was not taken is lost, so that is said.
+fn write_out(text: &[u8]) -> bool {
+    let taken = io::write_all(STDOUT_FILENO, text);
+    if !taken {
+        os::fail(b"cannot write standard output");
+    }
+    taken
 }
 
 // Writes out the text that waits.
@@ -80,7 +97,7 @@ pub fn flush(streams: Streams, output: &[u8]) -> Streams
         return after;
     }
     if after.taken {
-        after.taken = io::write_all(STDOUT_FILENO, &output[..waiting]);
+        after.taken = write_out(&output[..waiting]);
     }
     after
 }
@@ -97,15 +114,27 @@ fn next_place(streams: Streams) -> usize
     streams.to
 }
 
+// The first piece of what was read, as the system answered: 0 at the input's end, and less where it failed.
+fn piece_read(streams: Streams, got: isize, input: &[u8]) -> Streams
+    ensures { λ r. ⌜ (r ≡ pieceRead streams got (now (input .entry))) × (r .from ≤ r .to) × (r .to ≤ length (now (input .entry))) ⌝ }
+{
+    if got < 0 {
+        os::fail(b"cannot read the input");
+    }
+    let filled = io::count(got, input);
+    let mut after = piece_from(streams, input, 0, filled);
+    after.over = got == 0;
+    after
+}
+
 // Writes out what waits, and reads on.
-fn read_more(streams: Streams, input: &mut [u8], output: &[u8]) -> Streams
+fn read_more(streams: Streams, descriptor: i32, input: &mut [u8], output: &[u8]) -> Streams
     ensures { λ r. ⌜ Read streams (now (output .entry)) r (now (input .exit)) × Within r (now (input .exit)) (now (output .entry)) ⌝ }
 {
     let flushed = flush(streams, output);
     if flushed.taken {
-        let got = libc::read(STDIN_FILENO, input);
-        let filled = io::count(got, input);
-        return piece_from(flushed, input, 0, filled);
+        let got = libc::read(descriptor, input);
+        return piece_read(flushed, got, input);
     }
     piece_from(flushed, input, 0, 0)
 }
@@ -121,7 +150,7 @@ fn is_left(streams: Streams, input: &[u8], output: &[u8]) -> bool
 }
 
 // The next piece of the input: of the line begun, or of the next one where the last piece ended its line.
-pub fn next_piece(streams: Streams, input: &mut [u8], output: &[u8]) -> Streams
+pub fn next_piece(streams: Streams, descriptor: i32, input: &mut [u8], output: &[u8]) -> Streams
     ensures { λ r. ⌜ Found streams (now (input .entry)) (now (output .entry)) r (now (input .exit))
         × Within r (now (input .exit)) (now (output .entry)) ⌝ }
 {
@@ -129,14 +158,15 @@ pub fn next_piece(streams: Streams, input: &mut [u8], output: &[u8]) -> Streams
         let from = next_place(streams);
         return piece_from(streams, input, from, streams.filled);
     }
-    read_more(streams, input, output)
+    read_more(streams, descriptor, input, output)
 }
 
-// Whether a line is whole of which so many characters are held: a newline ends it, and the end of input a line that has characters.
+// Whether a line is whole of which so many characters are held: a newline ends it, and the end of input a line that has characters. A read that
+// failed ends no line.
 pub fn is_whole(streams: Streams, held: usize) -> bool
     ensures { λ r. ⌜ r ≡ isWhole streams held ⌝ }
 {
-    streams.ends | (!streams.found & (0 < held))
+    streams.ends | (streams.over & (0 < held))
 }
 
 // Room for so much more text in the output: where there is less, what waits is written out.

@@ -29,7 +29,7 @@ struct Reading {
 fn read_on(reading: Reading, input: &mut [u8], line: &mut [u8], output: &[u8]) -> Reading
     ensures { λ r. ⌜ r .characters ≤ length (now (line .exit)) ⌝ }
 {
-    let streams = lines::next_piece(reading.streams, input, output);
+    let streams = lines::next_piece(reading.streams, lines::STANDARD_INPUT, input, output);
     let from = streams.from;
     let to = streams.to;
     let characters = line_buffer::hold(line, reading.characters, &input[from..to]);

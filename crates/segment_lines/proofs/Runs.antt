@@ -1,7 +1,7 @@
 -- The whole output (`specs/Runs.antt`).
 use Prim.Native.Nat.{ℕ, _≤_, min}
 use native.Mathlib.Omega.{arith}
-use mathlib.Core.Bool.{true, false, not}
+use mathlib.Core.Bool.{true, false}
 use mathlib.Core.List.{List, [], _∷_, _++_, append-assoc, append-nil}
 use mathlib.Core.Path.{_≡_, refl, sym, ap, _∙_, subst}
 use lib.Dec.{ltb}
@@ -15,10 +15,10 @@ use Rattle.hex_lines.specs.Lines.{lineText, lineNext}
 use Rattle.hex_lines.proofs.Promises.{enough, front-does-the-same}
 use Rattle.lines.specs.Streams.{nothingRead, pieceIn, withWaiting, EndWaits, isWhole}
 use Rattle.lines.specs.declared.Streams.{Streams}
-use Rattle.lines.specs.Lines.{Reading, Follows}
+use Rattle.lines.specs.Lines.{asItStands, Reading, Follows}
 use Rattle.lines.specs.Lines.Follows.{begins as reading-begins}
 use Rattle.lines.proofs.Laws.{text-same, text-within, end-found, end-more}
-use Rattle.lines.proofs.Lines.{lines-found, reads-on}
+use Rattle.lines.proofs.Lines.{lines-found, line-stands, reads-on}
 use Rattle.segment_lines.specs.declared.Progress.{Progress}
 use Rattle.segment_lines.specs.Turns.{heldText, Turn}
 use Rattle.segment_lines.specs.Runs.{State, firstNumber, stateOf, TurnTo, putBy, readBy, program, first, textFrom, WholeOutput, WholeRun}
@@ -55,7 +55,7 @@ whole-alike r held line e =
 -- ---- a run and its reading
 
 record Agrees (input : List ℕ) (x : Reading) (text : List ℕ) (σ : State) : Type 0 where
-  follows : Follows input x
+  follows : Follows asItStands input x
   streams : σ .progress .streams ≡ withWaiting (x .streams) (σ .progress .streams .waiting) (σ .progress .streams .taken)
   same-input : σ .input ≡ x .input
   room : length (σ .line) ≡ 2939
@@ -74,7 +74,7 @@ module _ (input : List ℕ) (x : Reading) (text : List ℕ) (σ : State) (a : Ag
   abbrev line : List ℕ
   line = x .held ++ pieceIn (read .streams) (τ .input)
 
-  follows-on : Follows input (readBy σ τ t x)
+  follows-on : Follows asItStands input (readBy σ τ t x)
   follows-on =
       reads-on (a .follows) (σ .progress .streams) (a .streams) found (σ .input) (a .same-input) (σ .output) (a .waits .fits) (read .streams) (τ .input) (t .piece .found)
 
@@ -129,9 +129,9 @@ module _ (input : List ℕ) (x : Reading) (text : List ℕ) (σ : State) (a : Ag
         room = room-after;
         output-room = omega (arith, within .0, a .output-room);
         held = rw (b .none, y) (sym (take-nil 2939));
-        number = rw (y, number-more firstNumber (x .whole) line)
+        number = rw (y, line-stands (read .streams .ends) line, number-more firstNumber (x .whole) line)
             (b .next ∙ ap (lineNext (read .number)) held-front ∙ front-does-the-same (read .number) line .1 ∙ ap (λ (k : TransactionNumber). lineNext k line) number-read);
-        put = rw (e, y, text-more firstNumber (x .whole) line)
+        put = rw (e, y, line-stands (read .streams .ends) line, text-more firstNumber (x .whole) line)
             (ap (λ (l : List ℕ). l ++ lineText (read .number) (heldText read (τ .line))) (a .put)
             ∙ ap (λ (l : List ℕ). textFrom firstNumber (x .whole) ++ l) text-is);
         waits = rw e
@@ -157,14 +157,14 @@ agrees input line output room few n x text σ (goes {x = y} {text = before} {σ 
     cases (isWhole (t .read .streams) (t .read .held)) (ends input y before ρ a found τ t) (goes-on input y before ρ a found τ t)
 
 pub whole-output : WholeOutput
-whole-output input line output room few n x text σ runs none =
+whole-output input line output room few n x text σ runs over =
     let a = agrees input line output room few n x text σ runs in
-    a .put ∙ ap (textFrom firstNumber) (lines-found input x (a .follows) (sym (ap (λ (s : Streams). s .found) (a .streams)) ∙ none))
+    a .put ∙ ap (textFrom firstNumber) (lines-found asItStands input x (a .follows) (sym (ap (λ (s : Streams). s .over) (a .streams)) ∙ over))
 
 pub whole-run : WholeRun
-whole-run input line output room few r inputAfter lineAfter outputAfter ran none =
+whole-run input line output room few r inputAfter lineAfter outputAfter ran over =
     let runs = ran .run .runs in
-    let ended = sym (ap (λ (s : Streams). s .found) (ran .flushed .emptied)) ∙ none in
+    let ended = sym (ap (λ (s : Streams). s .over) (ran .flushed .emptied)) ∙ over in
     (whole-output input line output room few _ _ _ _ runs ended, agrees input line output room few _ _ _ _ runs .waits)
 
 -- the program starts with nothing read

@@ -23,7 +23,7 @@ fn read_on(progress: Progress, input: &mut [u8], line: &mut [u8], output: &[u8])
     requires { ⌜ progress .held ≤ length (now line) ⌝ }
     ensures { λ r. ⌜ PieceHeld progress (now (input .entry)) (now (line .entry)) (now (output .entry)) r (now (input .exit)) (now (line .exit)) ⌝ }
 {
-    let streams = lines::next_piece(progress.streams, input, output);
+    let streams = lines::next_piece(progress.streams, lines::STANDARD_INPUT, input, output);
     let from = streams.from;
     let to = streams.to;
     let number = progress.number;
@@ -70,7 +70,7 @@ fn take_turn(progress: Progress, input: &mut [u8], line: &mut [u8], output: &mut
     read
 }
 
-// Takes turns to the end of the input, and writes out what still waits. What it then has is handed back so that the contract can speak of it.
+// Takes turns for as long as input is found, and writes out what still waits. What it then has is handed back so that the contract can speak of it.
 fn run(input: &mut [u8], line: &mut [u8], output: &mut [u8]) -> Progress
     requires { ⌜ (length (now line) ≡ 2939) × (3776 ≤ length (now output)) ⌝ }
     ensures { λ r. ⌜ Ran (now (input .entry)) (now (line .entry)) (now (output .entry)) r (now (input .exit)) (now (line .exit)) (now (output .exit)) ⌝ }

@@ -9,13 +9,13 @@ use Rattle.lines.proofs.flush.Tie as tie
 returns : tie.Need-returns
 returns c = search needs
 
-slice-aggregate-write-all : tie.Need-slice-aggregate-write-all
-slice-aggregate-write-all c =
+slice-aggregate-write-out : tie.Need-slice-aggregate-write-out
+slice-aggregate-write-out c =
     let a = c .before .before .before .before .args in
     sym (length-take-le (a .streams .waiting) (a .output .now) (omega arith))
 
-write-all-requires : tie.Need-write-all-requires
-write-all-requires c κs = search needs
+write-out-requires : tie.Need-write-out-requires
+write-out-requires c κs = search needs
 
 returns-2 : tie.Need-returns-2
 returns-2 c = (record { emptied = refl; untaken = λ e. absurd (false≢true (sym e ∙ c .before .before .if2 .taken)); past = λ h. absurd (omega arith) }, refl)
@@ -25,4 +25,4 @@ returns-3 c = search needs
 
 pub flush-spec : {M : Type 1} → statement M
 flush-spec =
-    tie.close (tie.spec returns slice-aggregate-write-all write-all-requires returns-2 returns-3)
+    tie.close (tie.spec returns slice-aggregate-write-out write-out-requires returns-2 returns-3)

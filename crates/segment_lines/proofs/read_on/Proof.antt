@@ -32,7 +32,7 @@ returns c =
     let a = c .before .before .before .before .before .before .before .before .before .before .before .before .before .before .args in
     let n = c .before .before .before .before .before .before .before .before .before .next-piece in
     let e = c .before .before .hold .ensures in
-    let held = holds-piece (a .line .now) (a .progress .held) (pieceIn (n .result) (n .last .1 .0)) (omega arith) in
+    let held = holds-piece (a .line .now) (a .progress .held) (pieceIn (n .result) (n .last .1 .1 .0)) (omega arith) in
     rw (e .0, e .1)
     record {
       found = n .ensures .0;
