@@ -1,5 +1,5 @@
 use mathlib.Core.Path.{sym, _∙_}
-use Rattle.import_lines.specs.Steps.{openingOf}
+use Rattle.import_lines.specs.Lines.{openingOf}
 use borrow.Author.Needs.{needs}
 use Rattle.import_lines.proofs.openings.read_opening.Statement.{statement}
 use Rattle.import_lines.proofs.openings.read_opening.Tie as tie

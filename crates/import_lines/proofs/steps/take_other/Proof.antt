@@ -1,37 +1,33 @@
+use mathlib.Core.Path.{sym, _∙_}
+use Rattle.import_lines.proofs.Laws.{opened-line, unopened-line}
+use borrow.Author.Needs.{needs}
 use Rattle.import_lines.proofs.steps.take_other.Statement.{statement}
 use Rattle.import_lines.proofs.steps.take_other.Tie as tie
-use Rattle.import_lines.proofs.steps.take_other.Reads as reads
-use Rattle.import_lines.proofs.steps.take_other.Lts as lts
-use Rattle.import_lines.proofs.openings.read_opening.Reads as read-opening-reads
-use Rattle.import_lines.proofs.steps.open_socket.Reads as open-socket-reads
-use Rattle.import_lines.proofs.steps.take_plain.Reads as take-plain-reads
 
--- src/steps.rt:101:9
 read-opening-requires : tie.Need-read-opening-requires
-read-opening-requires c κs = ?
+read-opening-requires c κs = search needs
 
--- src/steps.rt:102:29
 enum-known-opening : tie.Need-enum-known-opening
-enum-known-opening c = ?
+enum-known-opening c = search needs
 
--- src/steps.rt:103:9
 open-socket-requires : tie.Need-open-socket-requires
-open-socket-requires c κs = ?
+open-socket-requires c κs = search needs
 
--- src/steps.rt:103:9
 returns : tie.Need-returns
-returns c = ?
+returns c =
+    let e = sym (c .before .before .before .before .read-opening .ensures) ∙ c .before .before .opening .given .1 in
+    rw (opened-line (c .before .before .before .before .before .before .args .line .now) e (c .before .before .before .before .before .before .args .tray) (c .before .before .before .before .before .before .args .number)) (c .open-socket .ensures)
 
 enum-told : tie.Need-enum-told
-enum-told c = ?
+enum-told c = search needs
 
--- src/steps.rt:105:5
 take-plain-requires : tie.Need-take-plain-requires
-take-plain-requires c κs = ?
+take-plain-requires c κs = search needs
 
--- src/steps.rt:98:1
 returns-2 : tie.Need-returns-2
-returns-2 c = ?
+returns-2 c =
+    let e = sym (c .before .before .before .read-opening .ensures) ∙ c .before .enum-told .given .1 in
+    rw (unopened-line (c .before .before .before .before .before .args .line .now) e (c .before .before .before .before .before .args .tray) (c .before .before .before .before .before .args .number)) (c .take-plain .ensures)
 
 pub take-other-spec : {M : Type 1} → statement M
 take-other-spec =

@@ -1,30 +1,27 @@
+use borrow.Author.Tests.{eq-eqb, ne-eqb}
+use mathlib.Core.Path.{sym, _∙_}
+use Rattle.import_lines.specs.Lines.{plainStep}
 use borrow.Author.Needs.{needs}
 use Rattle.import_lines.proofs.steps.take_plain.Statement.{statement}
 use Rattle.import_lines.proofs.steps.take_plain.Tie as tie
-use Rattle.import_lines.proofs.steps.take_plain.Reads as reads
-use Rattle.import_lines.proofs.steps.take_plain.Lts as lts
-use Rattle.import_lines.proofs.steps.refuse_line.Reads as refuse-line-reads
-use Rattle.octets.proofs.octet_at.Reads as octet-at-reads
 
--- src/steps.rt:83:9
 returns : tie.Need-returns
-returns c = ?
+unfolding plainStep
+returns c = rw (eq-eqb _ _ (c .if1 .taken))
 
--- src/steps.rt:88:8
 octet-at-requires : tie.Need-octet-at-requires
 octet-at-requires c κs = search needs
 
--- src/steps.rt:89:9
 returns-2 : tie.Need-returns-2
-returns-2 c = ?
+unfolding plainStep
+returns-2 c = rw (ne-eqb _ _ (c .before .before .if1 .left), ← (c .before .octet-at .ensures), eq-eqb _ _ (c .if2 .taken))
 
--- src/steps.rt:94:5
 refuse-line-requires : tie.Need-refuse-line-requires
 refuse-line-requires c κs = search needs
 
--- src/steps.rt:79:1
 returns-3 : tie.Need-returns-3
-returns-3 c = ?
+unfolding plainStep
+returns-3 c = rw (ne-eqb _ _ (c .before .before .before .if1 .left), ← (c .before .before .octet-at .ensures), ne-eqb _ _ (c .before .if2 .left)) (c .refuse-line .ensures)
 
 pub take-plain-spec : {M : Type 1} → statement M
 take-plain-spec =

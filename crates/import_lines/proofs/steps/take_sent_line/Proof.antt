@@ -1,43 +1,44 @@
+use native.Mathlib.Omega.{arith}
+use mathlib.Core.List.{[]}
+use lib.ListN.{replicate}
+use mathlib.Core.Path.{refl, sym, _∙_}
+use Rattle.import_lines.proofs.Laws.{held-few, held-no-frame, held-is-frame, held-same}
+use Rattle.import_lines.specs.Lines.{sentLine}
 use borrow.Author.Needs.{needs}
 use Rattle.import_lines.proofs.steps.take_sent_line.Statement.{statement}
 use Rattle.import_lines.proofs.steps.take_sent_line.Tie as tie
-use Rattle.import_lines.proofs.steps.take_sent_line.Reads as reads
-use Rattle.import_lines.proofs.steps.take_sent_line.Lts as lts
-use Rattle.import_frames.proofs.take_sent.Reads as take-sent-reads
-use Rattle.import_lines.proofs.steps.read_frame.Reads as read-frame-reads
-use Rattle.import_lines.proofs.steps.refuse_line.Reads as refuse-line-reads
 
--- src/steps.rt:126:36
 slice-aggregate-read-frame : tie.Need-slice-aggregate-read-frame
 slice-aggregate-read-frame c = search needs
 
--- src/steps.rt:126:9
 read-frame-requires : tie.Need-read-frame-requires
 read-frame-requires c κs = search needs
 
--- src/steps.rt:128:9
 refuse-line-requires : tie.Need-refuse-line-requires
 refuse-line-requires c κs = search needs
 
--- src/steps.rt:128:9
 returns : tie.Need-returns
-returns c = ?
+unfolding sentLine
+returns c =
+    let none = held-no-frame (c .before .before .before .before .before .before .args .digits .now) (replicate 30 0) refl (sym (c .before .before .before .read-frame .ensures .0) ∙ c .before .if1 .taken) in
+    rw none (c .refuse-line .ensures)
 
--- src/steps.rt:130:44
 array-share-prefix-frame : tie.Need-array-share-prefix-frame
-array-share-prefix-frame c = ?
+array-share-prefix-frame c = omega (arith, c .before .before .read-frame .ensures .0, held-few (c .before .before .before .before .before .args .digits .now) (replicate 30 0))
 
--- src/steps.rt:130:44
 slice-aggregate-take-sent : tie.Need-slice-aggregate-take-sent
-slice-aggregate-take-sent c = ?
+slice-aggregate-take-sent c = rw (c .before .before .before .read-frame .ensures .1) (c .before .before .before .read-frame .ensures .0)
 
--- src/steps.rt:130:5
 take-sent-requires : tie.Need-take-sent-requires
 take-sent-requires c κs = search needs
 
--- src/steps.rt:122:1
 returns-2 : tie.Need-returns-2
-returns-2 c = ?
+unfolding sentLine
+returns-2 c =
+    let k = c .before .before .before .before .read-frame .ensures in
+    let some = held-is-frame (c .before .before .before .before .before .before .before .args .digits .now) (replicate 30 0) (λ e. c .before .before .if1 .left (k .0 ∙ e)) in
+    let w = rw (k .1) at (c .take-sent .ensures) in
+    rw some (w ∙ held-same (c .before .before .before .before .before .before .before .args .digits .now) (replicate 30 0) refl some (c .before .before .before .before .before .before .before .args .tray) [] (c .before .before .before .before .before .before .before .args .number) .2)
 
 pub take-sent-line-spec : {M : Type 1} → statement M
 take-sent-line-spec =
