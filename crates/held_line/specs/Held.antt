@@ -5,19 +5,16 @@ use mathlib.Core.List.{List, [], _∷_, _++_}
 use lib.Dec.{leb, eqb}
 use lib.ListN.{length, take, getD, set}
 use Rattle.hex.specs.Hex.{valueOf}
-use Rattle.import_lines.specs.Lines.{isComment}
 
 abbrev pub isDigit : ℕ → Bool
 isDigit c = leb (valueOf c) 15
 
 -- ---- the text that is held
 
--- one character more where 64 are held: a comment stays, and a text that ends with another character than a digit does; another character than a
--- digit takes the last place; a digit behind digits takes one away, so that their number stays even or odd
+-- one character more where 64 are held: a text that ends with another character than a digit stays; another character than a digit takes the last
+-- place; a digit behind digits takes one away, so that their number stays even or odd
 unfoldable pub fullAfter : List ℕ → ℕ → List ℕ
-fullAfter held c =
-    cond (isComment held) held
-    (cond (isDigit (getD held 63 0)) (cond (isDigit c) (take 63 held) (take 63 held ++ (c ∷ []))) held)
+fullAfter held c = cond (isDigit (getD held 63 0)) (cond (isDigit c) (take 63 held) (take 63 held ++ (c ∷ []))) held
 
 -- one character more
 unfoldable pub heldAfter : List ℕ → ℕ → List ℕ
@@ -37,10 +34,10 @@ abbrev pub isBuffer : List ℕ → ℕ → Bool
 isBuffer line held = eqb (length line) 64 && leb held 64
 
 unfoldable pub fullCount : List ℕ → ℕ → ℕ
-fullCount line c = cond (isComment line) 64 (cond (isDigit (getD line 63 0)) (cond (isDigit c) 63 64) 64)
+fullCount line c = cond (isDigit (getD line 63 0)) (cond (isDigit c) 63 64) 64
 
 unfoldable pub fullBuffer : List ℕ → ℕ → List ℕ
-fullBuffer line c = cond (isComment line) line (cond (isDigit (getD line 63 0)) (cond (isDigit c) line (set line 63 c)) line)
+fullBuffer line c = cond (isDigit (getD line 63 0)) (cond (isDigit c) line (set line 63 c)) line
 
 unfoldable pub countAfter : List ℕ → ℕ → ℕ → ℕ
 countAfter line held c = cond (isBuffer line held) (cond (leb 64 held) (fullCount line c) (held + 1)) held

@@ -1,7 +1,18 @@
-// A line of input of any length, held in a buffer of 64 characters so that it is imported as the whole line would be.
+// A line of input of any length, held in 64 characters so that it is imported as the whole line would be.
+ghost use mathlib.Core.Bool.{cond};
 ghost use mathlib.Core.Path.{_≡_};
 ghost use lib.ListN.{length};
 ghost use Rattle.held_line.specs.Held.{isDigit, fullCount, fullBuffer, countAfter, bufferAfter};
+ghost use Rattle.held_line.specs.Lines.{emptyLine, heldPiece, settled, begun};
+
+// The line so far.
+pub struct HeldLine {
+    pub characters: [u8; 64],
+    // Characters that are held, at the start.
+    pub count: usize,
+    // Whether a carriage return came last. It is held once another character or the end of input follows, and never before a newline.
+    pub returned: bool,
+}
 
 fn is_digit(character: u8) -> bool
     ensures { λ r. ⌜ r ≡ isDigit character ⌝ }
@@ -15,9 +26,6 @@ fn hold_full(line: &mut [u8], character: u8) -> usize
     ensures { λ r. ⌜ (r ≡ fullCount (now (line .entry)) character)
         × (now (line .exit) ≡ fullBuffer (now (line .entry)) character) ⌝ }
 {
-    if line[0] == b'#' {
-        return 64;
-    }
     if is_digit(line[63]) {
         if is_digit(character) {
             return 63;
@@ -29,7 +37,7 @@ fn hold_full(line: &mut [u8], character: u8) -> usize
 }
 
 // Holds one character more of a line, of which so many characters are held at the start of the buffer; how many are held then.
-pub fn hold(line: &mut [u8], held: usize, character: u8) -> usize
+fn hold(line: &mut [u8], held: usize, character: u8) -> usize
     ensures { λ r. ⌜ (r ≡ countAfter (now (line .entry)) held character)
         × (now (line .exit) ≡ bufferAfter (now (line .entry)) held character) ⌝ }
 {
@@ -44,4 +52,66 @@ pub fn hold(line: &mut [u8], held: usize, character: u8) -> usize
     }
     line[held] = character;
     held + 1
+}
+
+// The same where the character is wanted; else nothing changes.
+fn hold_if(line: &mut [u8], held: usize, wanted: bool, character: u8) -> usize
+    ensures { λ r. ⌜ (r ≡ cond wanted (countAfter (now (line .entry)) held character) held)
+        × (now (line .exit) ≡ cond wanted (bufferAfter (now (line .entry)) held character) (now (line .entry))) ⌝ }
+{
+    if wanted {
+        return hold(line, held, character);
+    }
+    held
+}
+
+pub fn empty_line() -> HeldLine
+    ensures { λ r. ⌜ r ≡ emptyLine ⌝ }
+{
+    HeldLine {
+        characters: [0u8; 64],
+        count: 0,
+        returned: false,
+    }
+}
+
+// Holds a piece more of a line.
+pub fn hold_piece(line: HeldLine, piece: &[u8]) -> HeldLine
+    ensures { λ r. ⌜ r ≡ heldPiece line (now (piece .entry)) ⌝ }
+{
+    let mut characters = line.characters;
+    let mut count = line.count;
+    let mut returned = line.returned;
+    let mut i = 0;
+    while i < piece.len() {
+        count = hold_if(&mut characters, count, returned, b'\r');
+        returned = piece[i] == b'\r';
+        count = hold_if(&mut characters, count, !returned, piece[i]);
+        i += 1;
+    }
+    HeldLine {
+        characters: characters,
+        count: count,
+        returned: returned,
+    }
+}
+
+// At the end of input a carriage return is part of the line.
+pub fn settle(line: HeldLine) -> HeldLine
+    ensures { λ r. ⌜ r ≡ settled line ⌝ }
+{
+    let mut characters = line.characters;
+    let count = hold_if(&mut characters, line.count, line.returned, b'\r');
+    HeldLine {
+        characters: characters,
+        count: count,
+        returned: false,
+    }
+}
+
+// Characters of the line so far: not 0 where it has any.
+pub fn begun(line: HeldLine) -> usize
+    ensures { λ r. ⌜ r ≡ begun line ⌝ }
+{
+    if line.returned { 1 } else { line.count }
 }

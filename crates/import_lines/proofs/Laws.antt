@@ -112,7 +112,7 @@ long-frames tray area number f g p q =
     (rw (e, parsed-long f p, parsed-long g q), ap (λ (r : Answer × Station). r .1 .area) e)
 
 -- sent, 1
-long-sent : (tray : Tray) (number : ℕ) (f g : List ℕ) → 30 ≤ length f → 30 ≤ length g → sentStep tray number f ≡ sentStep tray number g
+pub long-sent : (tray : Tray) (number : ℕ) (f g : List ℕ) → 30 ≤ length f → 30 ≤ length g → sentStep tray number f ≡ sentStep tray number g
 unfolding sentStep
 long-sent tray number f g p q = rw (parsed-long f p, parsed-long g q)
 
