@@ -1,63 +1,58 @@
--- A text behind what waits, and what a turn leaves of the line.
-use Prim.Native.Nat.{ℕ, zero, suc, _+_, _-_, _≤_}
+-- A text behind what waits, and sockets one after the other.
+use Prim.Native.Nat.{ℕ, zero, suc, _+_, _-_, _≤_, min}
 use native.Mathlib.Omega.{arith}
 use mathlib.Core.Bool.{true}
-use mathlib.Core.List.{List}
+use mathlib.Core.List.{List, []}
 use mathlib.Core.Path.{_≡_, refl, sym, _∙_}
-use lib.ListN.{length, drop, length-append, length-drop}
-use borrow.Author.Tests.{le-leb}
+use lib.Dec.{leb}
+use lib.ListN.{length, take}
+use lib.Seq.{take-all}
+use borrow.Author.Tests.{le-leb, leb-true, leb-false}
 use Rattle.octets.specs.Parts.{write}
+use Rattle.octets.specs.Writing.{written, outputAfter}
 use Rattle.octets.specs.declared.Written.the-variants.{Count}
+use Rattle.octets.proofs.Parts.{write-nothing}
 use Rattle.octets.proofs.Tests.{cases}
-use Rattle.octets.proofs.Parts.{write-start}
-use Rattle.lines.specs.Streams.{TextWaits, isWhole}
+use Rattle.lines.specs.Streams.{TextWaits}
 use Rattle.lines.specs.declared.Streams.{Streams}
 use Rattle.lines.proofs.Laws.{behind, behind-long}
-use Rattle.octets.specs.Writing.{written, outputAfter as textAfter}
-use Rattle.import_tray.specs.Awaited.{missingText}
+use Rattle.import_tray.specs.Trays.{reportText, lastReport}
 use Rattle.import_tray.specs.declared.Tray.{Tray}
-use Rattle.import_frames.specs.Frames.{Step}
-use Rattle.import_lines.proofs.Laws.{text-fits}
-use Rattle.import_lines.specs.Steps.{stepped, importedOf, areaAfter, outputAfter}
-use Rattle.import_capabilities.specs.declared.Progress.{Progress}
-use Rattle.import_capabilities.specs.Turns.{Turn, Missing}
-use Rattle.import_capabilities.specs.Turns.Missing.{none, more}
+use Rattle.import_capabilities.specs.Turns.{SocketsPut}
+use Rattle.import_capabilities.specs.Turns.SocketsPut.{none, more}
 
--- a write at the start that leaves the length as it was is within the list
-pub write-within : (l d : List ℕ) → length (write l 0 d) ≡ length l → length d ≤ length l
-write-within l d e =
-    let long : length (write l 0 d) ≡ length d + (length l - length d) = rw (write-start l d) (length-append d (drop (length d) l) ∙ rw (length-drop (length d) l)) in
-    omega arith
+-- an output that nothing is written to
+pub no-text : (output : List ℕ) → (Count 0 ≡ written true [] output) × (output ≡ outputAfter true [] output)
+unfolding written outputAfter
+no-text output = rw (le-leb 0 (length output) (omega arith)) (refl, sym (write-nothing output 0))
 
--- ---- behind the text that waits, with room for any line
+-- ---- a text of at most 315 characters
 
-module _ (output : List ℕ) (at : ℕ) (fits : at + 231 ≤ length output) where
-  room : 231 ≤ length (behind output at)
-  room = omega (arith, behind-long output at (omega arith))
+text-fits : (text output : List ℕ) → length text ≤ 315 → 315 ≤ length output
+    → (written true text output ≡ Count (length text)) × (outputAfter true text output ≡ write output 0 text)
+unfolding written outputAfter
+text-fits text output h room = rw (le-leb (length text) (length output) (omega arith)) (refl, refl)
 
-  pub text-put : (text : List ℕ) → length text ≤ 231 → (written true text (behind output at) ≡ Count (length text)) × (textAfter true text (behind output at) ≡ write (behind output at) 0 text)
-  text-put text short = text-fits text (behind output at) short room
+-- behind the text that waits, with room for any row
+pub text-put : (output : List ℕ) (at : ℕ) → at + 315 ≤ length output → (text : List ℕ) → length text ≤ 315
+    → (written true text (behind output at) ≡ Count (length text)) × (outputAfter true text (behind output at) ≡ write (behind output at) 0 text)
+text-put output at fits text short = text-fits text (behind output at) short (omega (arith, behind-long output at (omega arith)))
 
-  pub step-done : (tray : Tray) (x : Step) (area next : List ℕ)
-      → (importedOf tray x (behind output at) ≡ stepped x) × (areaAfter area next (behind output at) ≡ next) × (outputAfter x (behind output at) ≡ write (behind output at) 0 (x .text))
-  unfolding importedOf areaAfter outputAfter
-  step-done tray x area next = rw (le-leb 231 (length (behind output at)) room) (refl, refl, refl)
+-- ---- one socket more
 
--- ---- turns and sockets
-
--- after a turn no more is held than 64 characters
-pub turn-few : {p : Progress} {input area output : List ℕ} {r : Progress} {inputAfter areaAfter outputAfter : List ℕ}
-    → Turn p input area output r inputAfter areaAfter outputAfter → r .line .count ≤ 64
-turn-few t =
-    cases (isWhole (t .read .streams) (t .read .line .count))
-    (λ e. let n = t .whole e .none in omega arith)
-    (λ e. rw (t .begun e .0) (t .piece .few))
-
--- one socket more
-pub missing-more : {tray : Tray} {s before r : Streams} {output between after : List ℕ} (k : ℕ) → 1 ≤ k → Missing tray s output (k - 1) before between
-    → TextWaits before between 231 (missingText tray (record { 0 = k })) r after → Missing tray s output (k + 1 - 1) r after
-missing-more zero h m t = absurd (omega arith)
-missing-more (suc n) h m t =
+pub sockets-more : {tray : Tray} {s before r : Streams} {output between after : List ℕ} (k : ℕ) → 1 ≤ k → SocketsPut tray s output (k - 1) before between
+    → TextWaits before between 315 (reportText (lastReport tray (record { 0 = k }))) r after → SocketsPut tray s output (k + 1 - 1) r after
+sockets-more zero h m t = absurd (omega arith)
+sockets-more (suc n) h m t =
     let e : suc n - 1 ≡ n = omega arith in
     let f : suc n + 1 - 1 ≡ suc n = omega arith in
     rw f (more (rw e at m) t)
+
+-- ---- the characters that are held
+
+pub held-within : (characters : List ℕ) (count : ℕ) → length characters ≡ 64 → take (min count 64) characters ≡ take count characters
+held-within characters count long =
+    cases (leb count 64) (λ e. let m : min count 64 ≡ count = omega (arith, leb-true count 64 e) in rw m)
+    (λ e. let b = leb-false count 64 e in
+    let m : min count 64 ≡ 64 = omega arith in
+    rw m (take-all 64 characters (omega arith) ∙ sym (take-all count characters (omega arith))))

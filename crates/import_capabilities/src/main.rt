@@ -1,54 +1,31 @@
-// Reads the log of a tray from standard input, a line for each opening and each frame heard, and writes a stock record for each module that
-// answers, to standard output.
-use import_lines::Imported;
-use import_tray::Tray;
+// Reads the log of a tray, from standard input or from the file that its argument names, and writes the stock table to standard output.
+use held_line::HeldLine;
+use import_log::Log;
+use import_log::Taken;
+use import_tray::Report;
+use libc::STDERR_FILENO;
+use line_fields::MOST;
+use lines::STANDARD_INPUT;
 use lines::Streams;
 use octets::Written;
 use transactions::Socket;
+ghost use mathlib.Core.Bool.{true};
 ghost use mathlib.Core.Path.{_≡_};
-ghost use Prim.Native.Nat.{_≤_};
-ghost use lib.ListN.{length};
+ghost use Prim.Native.Nat.{_≤_, min};
+ghost use lib.ListN.{length, replicate};
+ghost use Rattle.octets.specs.Writing.{written, outputAfter};
 ghost use Rattle.lines.specs.Streams.{TextWaits};
-ghost use Rattle.import_tray.specs.Awaited.{missingText};
-ghost use Rattle.held_line.specs.Held.{heldFrom};
-ghost use Rattle.import_lines.specs.Lines.{lineStep, lineArea};
-ghost use Rattle.import_lines.specs.Steps.{importedOf, areaAfter, outputAfter};
-ghost use Rattle.import_capabilities.specs.Turns.{heldText, nextNumber, waitingWith, PieceHeld, LineEnded, Turn, Missing};
+ghost use Rattle.held_line.specs.Lines.{heldText};
+ghost use Rattle.import_tray.specs.Trays.{reportText, lastReport};
+ghost use Rattle.import_log.specs.Logs.{taken, areaAfter};
+ghost use Rattle.import_capabilities.specs.Turns.{waitingWith, wholeLine, PieceHeld, LineEnded, Turn, SocketsPut, LastPut, EndPut};
 ghost use Rattle.import_capabilities.specs.Runs.{Starts, Ran};
-
-// The line so far, in such a shape that it is imported as the whole line would be.
-struct Line {
-    characters: [u8; 64],
-    // Characters that are held.
-    count: usize,
-}
 
 // How far the program has come.
 struct Progress {
     streams: Streams,
-    line: Line,
-    // The number of the last line, from 1.
-    number: u64,
-    tray: Tray,
-}
-
-fn empty_line() -> Line
-    ensures { λ r. ⌜ r .count ≡ 0 ⌝ }
-{
-    Line {
-        characters: [0u8; 64],
-        count: 0,
-    }
-}
-
-fn next_number(number: u64) -> u64
-    ensures { λ r. ⌜ r ≡ nextNumber number ⌝ }
-{
-    if number < u64::MAX {
-        number + 1
-    } else {
-        number
-    }
+    line: HeldLine,
+    log: Log,
 }
 
 // The text at the end of what waited waits too.
@@ -56,140 +33,177 @@ fn waits(streams: Streams, answer: Written, output: &[u8]) -> Streams
     ensures { λ r. ⌜ r ≡ waitingWith streams answer (now (output .entry)) ⌝ }
 {
     let Written::Count(n) = answer else {
-        // Never: room was made for any text.
+        // Never: room was made for any row.
         return streams;
     };
     lines::add_waiting(streams, output, n)
 }
 
-// Holds a piece more of the line.
-fn hold_piece(line: Line, piece: &[u8]) -> Line
-    requires { ⌜ line .count ≤ 64 ⌝ }
-    ensures { λ r. ⌜ (r .count ≤ 64) × (heldText r ≡ heldFrom (heldText line) (now (piece .entry))) ⌝ }
+// The text of a report at the start of the output, or refusal 11.
+fn write_report(report: Report, output: &mut [u8]) -> Written
+    ensures { λ r. ⌜ (r ≡ written true (reportText report) (now (output .entry)))
+        × (now (output .exit) ≡ outputAfter true (reportText report) (now (output .entry)))
+        × (length (reportText report) ≤ 315) ⌝ }
 {
-    let mut characters = line.characters;
-    let mut count = line.count;
-    let mut i = 0;
-    while i < piece.len() {
-        count = held_line::hold(&mut characters, count, piece[i]);
-        i += 1;
-    }
-    Line {
-        characters: characters,
-        count: count,
-    }
+    let Report::Row(row) = report else {
+        return Written::Count(0);
+    };
+    stock_table::write_row(row, output)
+}
+
+// The row of a report waits.
+fn put_report(before: Streams, report: Report, output: &mut [u8]) -> Streams
+    requires { ⌜ 315 ≤ length (now output) ⌝ }
+    ensures { λ r. ⌜ TextWaits before (now (output .entry)) 315 (reportText report) r (now (output .exit)) ⌝ }
+{
+    let streams = lines::make_room(before, output, MOST);
+    let waiting = streams.waiting;
+    let answer = write_report(report, &mut output[waiting..]);
+    waits(streams, answer, output)
 }
 
 // Reads on as far as a line's end, or the end of what is there.
-fn read_on(progress: Progress, input: &mut [u8], output: &[u8]) -> Progress
-    requires { ⌜ progress .line .count ≤ 64 ⌝ }
+fn read_on(progress: Progress, descriptor: i32, input: &mut [u8], output: &[u8]) -> Progress
     ensures { λ r. ⌜ PieceHeld progress (now (input .entry)) (now (output .entry)) r (now (input .exit)) ⌝ }
 {
-    let streams = lines::next_piece(progress.streams, input, output);
+    let streams = lines::next_piece(progress.streams, descriptor, input, output);
     let from = streams.from;
     let to = streams.to;
-    let mut after = progress;
-    after.streams = streams;
-    after.line = hold_piece(progress.line, &input[from..to]);
-    after
-}
-
-// Imports the line, the line of that number.
-fn import_held(tray: Tray, area: &mut [u8], number: u64, line: Line, output: &mut [u8]) -> Imported
-    requires { ⌜ line .count ≤ 64 ⌝ }
-    ensures { λ r. ⌜ (r ≡ importedOf tray (lineStep tray (now (area .entry)) number (heldText line)) (now (output .entry)))
-        × (now (area .exit) ≡ areaAfter (now (area .entry)) (lineArea tray (now (area .entry)) (heldText line)) (now (output .entry)))
-        × (now (output .exit) ≡ outputAfter (lineStep tray (now (area .entry)) number (heldText line)) (now (output .entry))) ⌝ }
-{
-    let characters = line.characters;
-    let count = line.count;
-    import_lines::import_line(tray, area, number, &characters[..count], output)
-}
-
-// Ends the line: its text waits in the output.
-fn end_line(progress: Progress, area: &mut [u8], output: &mut [u8]) -> Progress
-    requires { ⌜ (progress .line .count ≤ 64) × (231 ≤ length (now output)) ⌝ }
-    ensures { λ r. ⌜ LineEnded progress (now (area .entry)) (now (output .entry)) r (now (area .exit)) (now (output .exit)) ⌝ }
-{
-    let number = next_number(progress.number);
-    let streams = lines::make_room(progress.streams, output, line_fields::MOST);
-    let waiting = streams.waiting;
-    let imported = import_held(
-        progress.tray,
-        area,
-        number,
-        progress.line,
-        &mut output[waiting..],
-    );
-    let tray = imported.tray;
-    let answer = imported.answer;
+    let log = progress.log;
     Progress {
-        streams: waits(streams, answer, output),
-        line: empty_line(),
-        number: number,
-        tray: tray,
+        streams: streams,
+        line: held_line::hold_piece(progress.line, &input[from..to]),
+        log: log,
     }
 }
 
-fn take_turn(progress: Progress, input: &mut [u8], area: &mut [u8], output: &mut [u8]) -> Progress
-    requires { ⌜ (progress .line .count ≤ 64) × (231 ≤ length (now output)) ⌝ }
+fn smaller(a: usize, b: usize) -> usize
+    ensures { λ r. ⌜ r ≡ min a b ⌝ }
+{
+    if a <= b { a } else { b }
+}
+
+// Takes the line that is held.
+fn take_held(log: Log, area: &mut [u8], line: HeldLine) -> Taken
+    ensures { λ r. ⌜ (r ≡ taken log (now (area .entry)) (heldText line))
+        × (now (area .exit) ≡ areaAfter log (now (area .entry)) (heldText line)) ⌝ }
+{
+    let characters = line.characters;
+    let count = smaller(line.count, 64);
+    import_log::take_line(log, area, &characters[..count])
+}
+
+// What is held of a line at its end, by a newline or by the end of input.
+fn whole_line(streams: Streams, line: HeldLine) -> HeldLine
+    ensures { λ r. ⌜ r ≡ wholeLine streams line ⌝ }
+{
+    if streams.ends {
+        return line;
+    }
+    held_line::settle(line)
+}
+
+// Ends the line: its row waits in the output.
+fn end_line(progress: Progress, area: &mut [u8], output: &mut [u8]) -> Progress
+    requires { ⌜ 315 ≤ length (now output) ⌝ }
+    ensures { λ r. ⌜ LineEnded progress (now (area .entry)) (now (output .entry)) r (now (area .exit)) (now (output .exit)) ⌝ }
+{
+    let line = whole_line(progress.streams, progress.line);
+    let taken = take_held(progress.log, area, line);
+    let log = taken.log;
+    let report = taken.report;
+    Progress {
+        streams: put_report(progress.streams, report, output),
+        line: held_line::empty_line(),
+        log: log,
+    }
+}
+
+fn take_turn(
+    progress: Progress,
+    descriptor: i32,
+    input: &mut [u8],
+    area: &mut [u8],
+    output: &mut [u8],
+) -> Progress
+    requires { ⌜ 315 ≤ length (now output) ⌝ }
     ensures { λ r. ⌜ Turn progress (now (input .entry)) (now (area .entry)) (now (output .entry)) r (now (input .exit)) (now (area .exit)) (now (output .exit)) ⌝ }
 {
-    let read = read_on(progress, input, output);
-    let line = read.line;
-    if lines::is_whole(read.streams, line.count) {
+    let read = read_on(progress, descriptor, input, output);
+    if lines::is_whole(read.streams, held_line::begun(read.line)) {
         return end_line(read, area, output);
     }
     read
 }
 
-// The header is the first line, always.
+// The header is the first row, always.
 fn begin(output: &mut [u8]) -> Progress
-    requires { ⌜ 231 ≤ length (now output) ⌝ }
+    requires { ⌜ 315 ≤ length (now output) ⌝ }
     ensures { λ r. ⌜ Starts (now (output .entry)) r (now (output .exit)) ⌝ }
 {
-    let answer = stock_record::write_header(output);
+    let answer = stock_table::write_header(output);
     Progress {
         streams: waits(lines::start(), answer, output),
-        line: empty_line(),
-        number: 0,
-        tray: import_tray::new_tray(),
+        line: held_line::empty_line(),
+        log: import_log::new_log(),
     }
 }
 
-// The line of a socket whose record is missing.
-fn put_missing(tray: Tray, socket: u8, before: Streams, output: &mut [u8]) -> Streams
-    requires { ⌜ 231 ≤ length (now output) ⌝ }
-    ensures { λ r. ⌜ TextWaits before (now (output .entry)) 231 (missingText tray (record { 0 = socket })) r (now (output .exit)) ⌝ }
+// What is said of a socket after the last line.
+fn put_socket(log: Log, socket: Socket, before: Streams, output: &mut [u8]) -> Streams
+    requires { ⌜ 315 ≤ length (now output) ⌝ }
+    ensures { λ r. ⌜ TextWaits before (now (output .entry)) 315 (reportText (lastReport (log .tray) socket)) r (now (output .exit)) ⌝ }
 {
-    let streams = lines::make_room(before, output, line_fields::MOST);
-    let waiting = streams.waiting;
-    let answer = import_tray::missing_line(tray, Socket(socket), &mut output[waiting..]);
-    waits(streams, answer, output)
+    let report = import_tray::last_report(log.tray, socket);
+    put_report(before, report, output)
 }
 
-fn put_all_missing(tray: Tray, before: Streams, output: &mut [u8]) -> Streams
-    requires { ⌜ 231 ≤ length (now output) ⌝ }
-    ensures { λ r. ⌜ Missing tray before (now (output .entry)) 8 r (now (output .exit)) ⌝ }
+// The same of every socket.
+fn put_sockets(log: Log, before: Streams, output: &mut [u8]) -> Streams
+    requires { ⌜ 315 ≤ length (now output) ⌝ }
+    ensures { λ r. ⌜ SocketsPut (log .tray) before (now (output .entry)) 8 r (now (output .exit)) ⌝ }
 {
     let mut streams = before;
     let mut socket: u8 = 1;
     while socket <= 8 {
-        streams = put_missing(tray, socket, streams, output);
+        streams = put_socket(log, Socket(socket), streams, output);
         socket += 1;
     }
     streams
 }
 
-fn run(input: &mut [u8], area: &mut [u8], output: &mut [u8])
-    requires { ⌜ 231 ≤ length (now output) ⌝ }
-    ensures { λ _. ⌜ Ran (now (input .entry)) (now (area .entry)) (now (output .entry)) ⌝ }
+// The rows after the last line.
+fn put_last(log: Log, before: Streams, output: &mut [u8]) -> Streams
+    requires { ⌜ 315 ≤ length (now output) ⌝ }
+    ensures { λ r. ⌜ LastPut log before (now (output .entry)) r (now (output .exit)) ⌝ }
+{
+    let streams = put_sockets(log, before, output);
+    let row = stock_table::end_row(log.lines);
+    put_report(streams, Report::Row(row), output)
+}
+
+// At the end of the input the last rows; a table that was cut short has none of them.
+fn put_end(progress: Progress, output: &mut [u8]) -> Streams
+    requires { ⌜ 315 ≤ length (now output) ⌝ }
+    ensures { λ r. ⌜ EndPut progress (now (output .entry)) r (now (output .exit)) ⌝ }
+{
+    let streams = progress.streams;
+    if streams.over {
+        return put_last(progress.log, streams, output);
+    }
+    streams
+}
+
+// Takes turns to the end of the input, and writes out what still waits. What it then has is handed back so that the contract can speak of it.
+fn run(descriptor: i32, input: &mut [u8], area: &mut [u8], output: &mut [u8]) -> Progress
+    requires { ⌜ (now area ≡ replicate 11752 0) × (315 ≤ length (now output)) ⌝ }
+    ensures { λ r. ⌜ Ran (now (input .entry)) (now (output .entry)) r (now (input .exit)) (now (area .exit)) (now (output .exit)) ⌝ }
 {
     let mut progress = begin(output);
     // Nothing says that the input ends, so the turns are counted down from a number that no run uses up.
     let mut turns = u64::MAX;
     while turns > 0 {
-        progress = take_turn(progress, input, area, output);
+        progress = take_turn(progress, descriptor, input, area, output);
         let streams = progress.streams;
         if streams.found {
             turns -= 1;
@@ -197,13 +211,49 @@ fn run(input: &mut [u8], area: &mut [u8], output: &mut [u8])
             turns = 0;
         }
     }
-    let streams = put_all_missing(progress.tray, progress.streams, output);
-    lines::flush(streams, output);
+    let put = put_end(progress, output);
+    let line = progress.line;
+    let log = progress.log;
+    Progress {
+        streams: lines::flush(put, output),
+        line: line,
+        log: log,
+    }
+}
+
+// Imports the log that a descriptor has.
+fn import(descriptor: i32) {
+    let mut input = io::large_buffer();
+    let mut output = io::large_buffer();
+    let mut area = [0u8; station::AREA_LENGTH];
+    run(descriptor, &mut input, &mut area, &mut output);
+}
+
+// Imports the file of a name.
+fn import_file(name: &[u8]) {
+    let descriptor = os::open_read(name);
+    if descriptor < 0 {
+        os::fail(name);
+        return;
+    }
+    import(descriptor);
 }
 
 fn main() {
-    let mut input = io::large_buffer();
-    let mut output = io::large_buffer();
-    let mut area = [0u8; 11752];
-    run(&mut input, &mut area, &mut output);
+    let arguments = os::arg_count();
+    if arguments <= 1 {
+        import(STANDARD_INPUT);
+        return;
+    }
+    let mut name = io::buffer();
+    let length = os::arg(1, &mut name);
+    if (2 < arguments) | (name[0] == b'-') {
+        io::write_all(STDERR_FILENO, b"usage: import_capabilities [FILE]\n");
+        return;
+    }
+    if os::errno() != 0 {
+        os::fail(b"the name of the file");
+        return;
+    }
+    import_file(&name[..length]);
 }

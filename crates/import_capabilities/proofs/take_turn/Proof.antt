@@ -7,6 +7,9 @@ use Rattle.import_capabilities.proofs.take_turn.Tie as tie
 read-on-requires : tie.Need-read-on-requires
 read-on-requires c κs = search needs
 
+begun-requires : tie.Need-begun-requires
+begun-requires c κs = search needs
+
 is-whole-requires : tie.Need-is-whole-requires
 is-whole-requires c κs = search needs
 
@@ -23,14 +26,14 @@ same-length-3 : tie.Need-same-length-3
 same-length-3 c = search needs
 
 returns : tie.Need-returns
-returns c =
+returns c = 
     let r = c .before .before .before .before .before .before .before .before .before .before .before .before .read-on in
-    let w = sym (c .before .before .before .before .before .before .before .before .is-whole .ensures) ∙ c .before .before .before .before .before .before .before .if1 .taken in
+    let w = rw (c .before .before .before .before .before .before .before .before .before .begun .ensures) at (sym (c .before .before .before .before .before .before .before .before .is-whole .ensures) ∙ c .before .before .before .before .before .before .before .if1 .taken) in
     record {
       read = r .result;
       piece = r .ensures;
       whole = λ _. c .before .before .before .before .end-line .ensures;
-      begun = λ n. absurd (false≢true (sym n ∙ w));
+      goes = λ n. absurd (false≢true (sym n ∙ w));
     }
 
 same-length-4 : tie.Need-same-length-4
@@ -40,14 +43,14 @@ same-length-5 : tie.Need-same-length-5
 same-length-5 c = search needs
 
 returns-2 : tie.Need-returns-2
-returns-2 c =
+returns-2 c = 
     let r = c .before .before .before .before .before .read-on in
-    let n = sym (c .before .is-whole .ensures) ∙ c .if1 .left in
+    let n = rw (c .before .before .begun .ensures) at (sym (c .before .is-whole .ensures) ∙ c .if1 .left) in
     record {
       read = r .result;
       piece = r .ensures;
       whole = λ w. absurd (false≢true (sym n ∙ w));
-      begun = λ _. (refl, refl, refl);
+      goes = λ _. (refl, refl, refl);
     }
 
 pub take-turn-spec : {M : Type 1} → statement M
@@ -55,6 +58,7 @@ take-turn-spec =
     tie.close
     (tie.spec
     read-on-requires
+    begun-requires
     is-whole-requires
     end-line-requires
     same-length
