@@ -1,2 +1,4 @@
 pub mod Steps
 pub mod Goodness
+pub mod AtOnce
+pub mod Answers
