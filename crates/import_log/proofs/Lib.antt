@@ -1,4 +1,5 @@
 pub mod Steps
 pub mod Goodness
 pub mod AtOnce
+pub mod Waiting
 pub mod Answers
