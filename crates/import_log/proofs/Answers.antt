@@ -1,27 +1,29 @@
 -- The promises of `specs/Answers.antt`.
-use Prim.Native.Nat.{ℕ, _+_, _*_, _-_, _≤_, _<_}
+use Prim.Native.Nat.{ℕ, _+_, _*_, _≤_, _<_}
 use native.Mathlib.Omega.{arith}
-use mathlib.Core.Bool.{Bool, true, false}
+use mathlib.Core.Bool.{true}
 use mathlib.Core.List.{List, [], _∷_, _++_}
 use mathlib.Core.Logic.{_≢_}
-use mathlib.Core.Path.{_≡_, refl, sym, ap, _∙_, subst}
-use lib.Dec.{eqb}
+use mathlib.Core.Path.{_≡_, refl, sym, ap, _∙_}
 use lib.ListN.{length, getD, take, drop}
 use lib.Seq.{take-take}
-use Rattle.octets.specs.Numbers.{Octets}
 use Rattle.octets.specs.Parts.{part}
 use Rattle.hex.specs.Hex.{octetsOf}
-use Rattle.transactions.specs.Numbers.{isSocket, socketPlace}
+use Rattle.transactions.specs.Numbers.{socketPlace}
 use Rattle.transactions.specs.Segments.{segN, segment}
 use Rattle.transactions.specs.declared.Socket.{Socket}
 use Rattle.transactions.specs.declared.TransactionNumber.{TransactionNumber}
 use Rattle.pb_adv.specs.Frame.{parsed}
+use Rattle.pb_adv.specs.declared.Parsed.the-variants as P
 use Rattle.pb_adv_writing.specs.Writing.{headerOf, segmentFrame, SegmentAsked}
 use Rattle.pb_adv_writing.proofs.Promises.{parsed-frame}
-use Rattle.links.specs.Links.{sends}
+use Rattle.links.specs.Links.{isLast, sends}
 use Rattle.links.specs.Segments.{OneLink, segmentStep}
-use Rattle.links.specs.Station.{Station, getLink, received}
+use Rattle.links.specs.Station.{Station, getLink, received, linkAt}
+use Rattle.links.specs.Interleaving.{All}
 use Rattle.links.specs.declared.Side.the-variants.{Provisioner, Device}
+use Rattle.links.specs.declared.LinkState.the-variants as S
+use Rattle.links.specs.declared.LastDelivered.{LastDelivered}
 use Rattle.links.specs.declared.Answer.{Answer}
 use Rattle.links.specs.declared.Answer.the-variants as A
 use Rattle.links.proofs.Lens.{part-size}
@@ -32,7 +34,6 @@ use Rattle.provisioning.specs.declared.Capabilities.{Capabilities}
 use Rattle.provisioning.specs.declared.Message.the-variants as M
 use Rattle.provisioning.proofs.Promises.{capabilities-in-place}
 use Rattle.line_fields.specs.declared.Word.the-variants as W
-use Rattle.line_fields.specs.declared.Field.the-variants as F
 use Rattle.stock_table.specs.Rows.{recordRow}
 use Rattle.stock_table.specs.declared.Origin.{Origin}
 use Rattle.import_tray.specs.Trays.{stockAt, stationOf}
@@ -43,12 +44,15 @@ use Rattle.import_tray.specs.declared.Tray.{Tray}
 use Rattle.import_tray.specs.declared.Step.{Step}
 use Rattle.import_messages.specs.Messages.{capabilitiesBy}
 use Rattle.import_frames.specs.Heard.{heardStep}
-use Rattle.import_lines.specs.Lines.{isFrame, lineStep}
-use Rattle.import_log.specs.Logs.{Import, afterAll, atFirst, numberIn}
-use Rattle.import_log.specs.Records.{fieldsOf, messageOrigin}
-use Rattle.import_log.specs.Answers.{Expects, Answering, Recorded, EveryAnswer}
-use Rattle.import_log.proofs.Goodness.{Sound, sized, SoundLog, sound}
+use Rattle.import_lines.specs.Lines.{isFrame}
+use Rattle.import_log.specs.Logs.{Import, after, afterAll, atFirst, numberIn}
+use Rattle.import_log.specs.Records.{Opens, fieldsOf, messageOrigin}
+use Rattle.import_log.specs.Answers.{Expects, Answering, Recorded, EveryAnswer, Leaves, FromTheStart}
+use Rattle.import_log.proofs.Steps.{heard-line}
+use Rattle.import_log.proofs.Goodness.{sized, SoundLog, sound-after, sound}
 use Rattle.import_log.proofs.AtOnce.{at-once}
+use Rattle.import_log.proofs.Waiting.{Waits, heard-waits, keeps-waiting}
+use Rattle.import_log.proofs.Opening.{opening-waits, ack-line}
 
 -- ---- the message
 
@@ -132,10 +136,6 @@ module _ (m : Import) (g : SoundLog m) (s : Socket) (id : ℕ) (t : TransactionN
         let q : place + 1 ≡ s .0 = ap (λ (z : Socket). z .0) (socket-at s 8 (x .numbered)) in
         rw (n, answers, found Provisioner σ place id opened, stands, e, q) (first-recorded (stockAt tray place) (x .noRecord) _ place number (messageOrigin s id t) c)
 
-heard-line : (tray : Tray) (area : List ℕ) (number : ℕ) (line : List ℕ) → isFrame line ≡ true → lineStep tray area number line ≡ heardStep tray area number (octetsOf line)
-unfolding lineStep
-heard-line tray area number line p = rw p
-
 -- an answer that is awaited is recorded
 pub answer-recorded : (m : Import) → SoundLog m → (s : Socket) (id : ℕ) (t : TransactionNumber) → Expects m s id t
     → (line octets : List ℕ) → Answering line id t octets → Recorded m line s id t octets
@@ -149,3 +149,53 @@ answer-recorded m g s id t x line octets a =
 -- EVERY ANSWER IS RECORDED
 pub every-answer : EveryAnswer
 every-answer before s id t x line octets a = answer-recorded (afterAll atFirst before) (sound before) s id t x line octets a
+
+-- ---- from the log's start
+
+after-append : (m : Import) (a b : List (List ℕ)) → afterAll m (a ++ b) ≡ afterAll (afterAll m a) b
+after-append m [] b = refl
+after-append m (line ∷ a) b = after-append (after m line) a b
+
+-- an open link that waits expects any number of the device's
+expects : (m : Import) (s : Socket) (id : ℕ) → Waits m s id → linkAt (m .log .tray .links) s .state ≡ S.Open → (t : TransactionNumber) → sends Device t ≡ true → Expects m s id t
+expects m s id w opened t sent = record {
+  numbered = w .numbered;
+  isOpen = opened;
+  hasId = w .hasId;
+  sent = sent;
+  awaited = record { notLast = ap (λ (l : LastDelivered). isLast l t) (w .last) };
+  notHalf = λ h e. let q = sym (w .half) ∙ e in let z : _≡_ {A = ℕ} 0 1 = cc in absurd (omega arith);
+  noRecord = w .noRecord;
+}
+
+-- the lines that open it, with the lines between them and since
+module _ (before : List (List ℕ)) (opening : List ℕ) (s : Socket) (id : ℕ) (opens : Opens (afterAll atFirst before) opening s id)
+    (between : List (List ℕ)) (leave : All (Leaves id) between) (ack : List ℕ) (isHexadecimal : isFrame ack ≡ true) (isAck : parsed (octetsOf ack) ≡ P.Ack id)
+    (since : List (List ℕ)) (leaveToo : All (Leaves id) since) where
+  abbrev before-ack : Import
+  before-ack = afterAll (after (afterAll atFirst before) opening) between
+
+  abbrev all-lines : List (List ℕ)
+  all-lines = before ++ (opening ∷ (between ++ (ack ∷ since)))
+
+  at-end : afterAll atFirst all-lines ≡ afterAll (after before-ack ack) since
+  at-end = after-append atFirst before _ ∙ after-append (after (afterAll atFirst before) opening) between (ack ∷ since)
+
+  good-before-ack : SoundLog before-ack
+  good-before-ack = sound-after (after (afterAll atFirst before) opening) (sound-after (afterAll atFirst before) (sound before) (opening ∷ [])) between
+
+  waits-before-ack : Waits before-ack s id
+  waits-before-ack = keeps-waiting s id (after (afterAll atFirst before) opening) (opening-waits (afterAll atFirst before) (sound before) opening s id opens) between leave .waits
+
+  at-end-expects : (t : TransactionNumber) → sends Device t ≡ true → Expects (afterAll atFirst all-lines) s id t
+  at-end-expects t sent =
+      let w = heard-waits s id before-ack waits-before-ack ack isHexadecimal (rw isAck) in
+      let k = keeps-waiting s id (after before-ack ack) w since leaveToo in
+      let o = ack-line before-ack good-before-ack s id waits-before-ack ack isHexadecimal isAck in
+      rw at-end (expects (afterAll (after before-ack ack) since) s id (k .waits) (k .opened o) t sent)
+
+-- FROM THE LOG'S START
+pub from-the-start : FromTheStart
+from-the-start before opening s id opens between leave ack p e since leaveToo t sent line octets a =
+    every-answer (before ++ (opening ∷ (between ++ (ack ∷ since)))) s id t
+    (at-end-expects before opening s id opens between leave ack p e since leaveToo t sent) line octets a

@@ -1,9 +1,9 @@
 -- What a line does to the tray and the lent area, by what kind of line it is; and the records after each kind.
 use Prim.Native.Nat.{ℕ, _*_, _%_}
-use mathlib.Core.Bool.{Bool, true, false, _&&_}
+use mathlib.Core.Bool.{Bool, true, false}
 use mathlib.Core.List.{List}
 use mathlib.Core.Path.{_≡_, refl, ap}
-use lib.Dec.{leb, eqb}
+use lib.Dec.{eqb}
 use lib.ListN.{length, drop}
 use lib.Seq.{getD-set-other}
 use Rattle.octets.specs.Numbers.{Octets}
@@ -30,7 +30,7 @@ use Rattle.import_tray.specs.declared.SocketStock.{SocketStock}
 use Rattle.import_tray.specs.declared.Tray.{Tray}
 use Rattle.import_tray.specs.declared.Stock.{Stock}
 use Rattle.import_tray.specs.declared.Stock.the-variants as K
-use Rattle.import_messages.specs.Messages.{capabilitiesBy, readingOf, messageBy, messageStep}
+use Rattle.import_messages.specs.Messages.{capabilitiesBy, readingOf, messageBy}
 use Rattle.import_messages.specs.declared.Reading.{Reading}
 use Rattle.import_messages.specs.declared.Reading.the-variants as G
 use Rattle.import_frames.specs.Heard.{deliveredStep, heardBy, heardStep, heardArea}
@@ -58,6 +58,10 @@ module _ (tray : Tray) (area : List ℕ) (number : ℕ) (line : List ℕ) where
       (λ q. rw q (cases (isFrame (drop 1 line)) (λ u. rw u (sends (holds-both q u) refl)) (λ u. rw u (passes refl))))
       (λ q. rw q (cases (isOpening line) (λ u. rw u (opens u refl))
       (λ u. rw u (cases (isPassed line) (λ v. rw v (passes refl)) (λ v. rw v (passes refl))))))))
+
+pub heard-line : (tray : Tray) (area : List ℕ) (number : ℕ) (line : List ℕ) → isFrame line ≡ true → lineStep tray area number line ≡ heardStep tray area number (octetsOf line)
+unfolding lineStep
+heard-line tray area number line p = rw p
 
 -- the octets of a frame's digits
 pub frame-octets : (line : List ℕ) → isFrame line ≡ true → Octets (octetsOf line)

@@ -1,7 +1,7 @@
 -- A link from its opening on: lines without a segment or a Close for its Link ID leave it waiting for its first message.
-use Prim.Native.Nat.{ℕ, _+_, _<_}
+use Prim.Native.Nat.{ℕ}
 use native.Mathlib.Omega.{arith}
-use mathlib.Core.Bool.{Bool, true, false, not, _&&_, false≢true}
+use mathlib.Core.Bool.{true, false, not, _&&_, false≢true}
 use mathlib.Core.List.{List, [], _∷_}
 use mathlib.Core.Logic.{_≢_}
 use mathlib.Core.Path.{_≡_, refl, sym, ap, _∙_, subst}
@@ -46,10 +46,10 @@ use Rattle.import_frames.specs.Origins.{outcomeOf, socketAt}
 use Rattle.import_frames.specs.Sent.{sendsNext, segmentSent, closedAt, sentOf, sentStep}
 use Rattle.import_frames.specs.declared.Asked.the-variants as A
 use Rattle.import_frames.specs.declared.Outcome.the-variants as O
-use Rattle.import_lines.specs.Lines.{socketIn, idIn, openedStep, lineStep}
+use Rattle.import_lines.specs.Lines.{isFrame, socketIn, idIn, openedStep, lineStep}
 use Rattle.import_log.specs.Logs.{Import, after, afterAll, numberIn}
 use Rattle.import_log.specs.Answers.{isOther, leavesOpen, leavesAlone, Leaves}
-use Rattle.import_log.proofs.Steps.{Does, hears, sends as sends-frame, opens, passes, line-does, frame-octets, isDelivery, heard-writes, opened-writes, Sends, nothing, sending, closing, askedBy, sent-does}
+use Rattle.import_log.proofs.Steps.{Does, hears, sends as sends-frame, opens, passes, line-does, heard-line, frame-octets, isDelivery, heard-writes, opened-writes, Sends, nothing, sending, closing, askedBy, sent-does}
 
 -- ---- a link that may have opened since, with its Link ID and what it received
 
@@ -244,6 +244,12 @@ module _ (s : Socket) (id : ℕ) where
     half = k .link .half ∙ w .half;
     noRecord = λ c e. w .noRecord c (sym (k .stock) ∙ e);
   }
+
+  -- after a frame that is heard
+  pub heard-waits : (m : Import) → Waits m s id → (line : List ℕ) → isFrame line ≡ true → leavesAlone id (parsed (octetsOf line)) ≡ true → Waits (after m line) s id
+  heard-waits m w line p e =
+      let k = heard-stays (m .log .tray) (m .area) (socketPlace s) id (w .used) (w .hasId) (octetsOf line) (frame-octets line p) e (numberIn m) in
+      still-waits m (after m line) w (rw (heard-line (m .log .tray) (m .area) (numberIn m) line p) k)
 
   -- and stays open once it is
   pub record Keeps (m n : Import) : Type 0 where
