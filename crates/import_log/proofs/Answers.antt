@@ -172,30 +172,33 @@ expects m s id w opened t sent = record {
 module _ (before : List (List ℕ)) (opening : List ℕ) (s : Socket) (id : ℕ) (opens : Opens (afterAll atFirst before) opening s id)
     (between : List (List ℕ)) (leave : All (Leaves id) between) (ack : List ℕ) (isHexadecimal : isFrame ack ≡ true) (isAck : parsed (octetsOf ack) ≡ P.Ack id)
     (since : List (List ℕ)) (leaveToo : All (Leaves id) since) where
-  abbrev before-ack : Import
-  before-ack = afterAll (after (afterAll atFirst before) opening) between
+  -- after the opening, before the Ack and after it
+  abbrev first : Import
+  first = after (afterAll atFirst before) opening
 
-  abbrev all-lines : List (List ℕ)
-  all-lines = before ++ (opening ∷ (between ++ (ack ∷ since)))
+  abbrev second : Import
+  second = afterAll first between
 
-  at-end : afterAll atFirst all-lines ≡ afterAll (after before-ack ack) since
-  at-end = after-append atFirst before _ ∙ after-append (after (afterAll atFirst before) opening) between (ack ∷ since)
+  abbrev third : Import
+  third = after second ack
 
-  good-before-ack : SoundLog before-ack
-  good-before-ack = sound-after (after (afterAll atFirst before) opening) (sound-after (afterAll atFirst before) (sound before) (opening ∷ [])) between
+  at-end : afterAll atFirst (before ++ (opening ∷ (between ++ (ack ∷ since)))) ≡ afterAll third since
+  at-end = after-append atFirst before (opening ∷ (between ++ (ack ∷ since))) ∙ after-append first between (ack ∷ since)
 
-  waits-before-ack : Waits before-ack s id
-  waits-before-ack = keeps-waiting s id (after (afterAll atFirst before) opening) (opening-waits (afterAll atFirst before) (sound before) opening s id opens) between leave .waits
+  good-second : SoundLog second
+  good-second = sound-after first (sound-after (afterAll atFirst before) (sound before) (opening ∷ [])) between
 
-  at-end-expects : (t : TransactionNumber) → sends Device t ≡ true → Expects (afterAll atFirst all-lines) s id t
-  at-end-expects t sent =
-      let w = heard-waits s id before-ack waits-before-ack ack isHexadecimal (rw isAck) in
-      let k = keeps-waiting s id (after before-ack ack) w since leaveToo in
-      let o = ack-line before-ack good-before-ack s id waits-before-ack ack isHexadecimal isAck in
-      rw at-end (expects (afterAll (after before-ack ack) since) s id (k .waits) (k .opened o) t sent)
+  waits-second : Waits second s id
+  waits-second = keeps-waiting s id first (opening-waits (afterAll atFirst before) (sound before) opening s id opens) between leave .waits
+
+  end-expects : (t : TransactionNumber) → sends Device t ≡ true → Expects (afterAll third since) s id t
+  end-expects t sent =
+      let w = heard-waits s id second waits-second ack isHexadecimal (rw isAck) in
+      let k = keeps-waiting s id third w since leaveToo in
+      expects (afterAll third since) s id (k .waits) (k .opened (ack-line second good-second s id waits-second ack isHexadecimal isAck)) t sent
 
 -- FROM THE LOG'S START
 pub from-the-start : FromTheStart
 from-the-start before opening s id opens between leave ack p e since leaveToo t sent line octets a =
-    every-answer (before ++ (opening ∷ (between ++ (ack ∷ since)))) s id t
-    (at-end-expects before opening s id opens between leave ack p e since leaveToo t sent) line octets a
+    let x = end-expects before opening s id opens between leave ack p e since leaveToo t sent in
+    every-answer (before ++ (opening ∷ (between ++ (ack ∷ since)))) s id t (rw (at-end before opening s id opens between leave ack p e since leaveToo) x) line octets a

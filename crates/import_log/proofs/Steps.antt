@@ -69,8 +69,9 @@ frame-octets line p =
     let h : isHexadecimal line ≡ true = both-hold {a = isHexadecimal line} p .0 in
     octets-are-octets line (both-hold {a = eqb (length line % 2) 0} {b = allDigits line} h .1)
 
--- ---- what is written of a message, at the places where C is so
+-- ---- the table
 
+-- the records are as they were, and what the table has of a socket changed only where C is so
 pub record Writes (C : ℕ → Type 0) (before after : Tray) : Type 0 where
   pub links : after .links ≡ before .links
   pub stock : (j : ℕ) → (C j → ⊥) → stockAt after j ≡ stockAt before j
@@ -111,7 +112,7 @@ module _ (links : List Link) (p : Parsed) (tray : Tray) (area : List ℕ) (line 
   heard-writes (O.Delivered n t) = delivered-writes (addressed links p) n (λ s e. (refl, e))
   heard-writes O.Nothing = same-tray tray
 
--- a line that is no frame writes at the socket that it opens
+-- an opening writes at its own socket
 pub opened-writes : (o : Outcome) (tray : Tray) (number : ℕ) (s : Socket) (id : ℕ) → Writes (λ j. j ≡ socketPlace s) tray (openedBy o tray number s id .tray)
 opened-writes (O.Refused n) tray number s id = same-tray tray
 opened-writes (O.Delivered n t) tray number s id = stock-written tray (socketPlace s) K.Missing refl
@@ -133,7 +134,7 @@ opened-links tray number s id =
     let r = localOpen Provisioner (tray .links) s id in
     opened-writes (outcomeOf (r .0)) (withLinks tray (r .1)) number s id .links
 
--- sent: a local call writes nothing but the records
+-- sent: a local call changes nothing but the records
 local-tray : (o : Outcome) (tray : Tray) (line : ℕ) (origin : Origin) → localBy o tray line origin .tray ≡ tray
 local-tray (O.Refused n) tray line origin = refl
 local-tray (O.Delivered n t) tray line origin = refl

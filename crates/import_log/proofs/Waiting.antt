@@ -86,29 +86,29 @@ module _ (σ : Station) (s id : ℕ) (hasId : getLink s σ .link .id ≡ id) whe
     same : Later (x .link) (x .link)
     same = later-same (x .link)
 
-    own-as : (state : LinkState) → x .link .state ≡ state → (p : Parsed) → leavesAlone id p ≡ true → addressed (σ .links) p ≡ At s
+    own-as : (state : LinkState) (p : Parsed) → leavesAlone id p ≡ true → addressed (σ .links) p ≡ At s
         → Passes x (frameStep Provisioner x state f p)
     unfolding frameStep acknowledgementStep
-    own-as S.Free z p e q = (refl, same)
-    own-as S.Opening z (P.Segment g) e q = (refl, same)
-    own-as S.Opening z (P.Acknowledgement i t) e q = (refl, same)
-    own-as S.Opening z (P.Open i uuid) e q = (refl, same)
-    own-as S.Opening z (P.Ack i) e q = (refl, record { opened = λ _. refl; used = λ _. refl; id = refl; last = refl; half = refl })
-    own-as S.Opening z (P.Close i reason) e q = absurd (elsewhere i e q)
-    own-as S.Opening z (P.Refused r) e q = (refl, same)
-    own-as S.Open z (P.Segment g) e q = absurd (elsewhere (g .id) e q)
-    own-as S.Open z (P.Acknowledgement i t) e q =
+    own-as S.Free p e q = (refl, same)
+    own-as S.Opening (P.Segment g) e q = (refl, same)
+    own-as S.Opening (P.Acknowledgement i t) e q = (refl, same)
+    own-as S.Opening (P.Open i uuid) e q = (refl, same)
+    own-as S.Opening (P.Ack i) e q = (refl, record { opened = λ _. refl; used = λ _. refl; id = refl; last = refl; half = refl })
+    own-as S.Opening (P.Close i reason) e q = absurd (elsewhere i e q)
+    own-as S.Opening (P.Refused r) e q = (refl, same)
+    own-as S.Open (P.Segment g) e q = absurd (elsewhere (g .id) e q)
+    own-as S.Open (P.Acknowledgement i t) e q =
         cases (sends Provisioner t)
         (λ u. rw u (cases (x .link .outstanding && eqb (x .link .next .0) (t .0))
         (λ v. rw v (refl, record { opened = λ k. k; used = λ k. k; id = refl; last = refl; half = refl })) (λ v. rw v (refl, same))))
         (λ u. rw u (refl, same))
-    own-as S.Open z (P.Open i uuid) e q = (refl, same)
-    own-as S.Open z (P.Ack i) e q = (refl, same)
-    own-as S.Open z (P.Close i reason) e q = absurd (elsewhere i e q)
-    own-as S.Open z (P.Refused r) e q = (refl, same)
+    own-as S.Open (P.Open i uuid) e q = (refl, same)
+    own-as S.Open (P.Ack i) e q = (refl, same)
+    own-as S.Open (P.Close i reason) e q = absurd (elsewhere i e q)
+    own-as S.Open (P.Refused r) e q = (refl, same)
 
     own-frame : leavesAlone id (parsed f) ≡ true → addressed (σ .links) (parsed f) ≡ At s → Passes x (frameStep Provisioner x (x .link .state) f (parsed f))
-    own-frame e q = own-as (x .link .state) refl (parsed f) e q
+    own-frame e q = own-as (x .link .state) (parsed f) e q
 
 -- ---- a line
 
@@ -150,14 +150,14 @@ module _ (tray : Tray) (area : List ℕ) (s id : ℕ) (used : inUse (getD (tray 
 
   -- ---- sent
 
-  -- a Start asks for no Close
-  start-asks : (found : Found) (t : TransactionNumber) (h : SegmentHeader) (w : Socket) → segmentSent (tray .links) found t h ≢ A.Close w
-  start-asks (At j) t (Start n c) w q =
+  -- a segment asks for no Close
+  segment-asks : (found : Found) (t : TransactionNumber) (h : SegmentHeader) (w : Socket) → segmentSent (tray .links) found t h ≢ A.Close w
+  segment-asks (At j) t (Start n c) w q =
       cases (sendsNext (getD (tray .links) j noLink) t)
       (λ e. let r = rw e at q in let z : _≡_ {A = ℕ} 0 1 = cc in absurd (omega arith))
       (λ e. let r = rw e at q in let z : _≡_ {A = ℕ} 0 1 = cc in absurd (omega arith))
-  start-asks Nowhere t (Start n c) w q = let z : _≡_ {A = ℕ} 0 1 = cc in absurd (omega arith)
-  start-asks found t (Continuation k) w q = let z : _≡_ {A = ℕ} 0 1 = cc in absurd (omega arith)
+  segment-asks Nowhere t (Start n c) w q = let z : _≡_ {A = ℕ} 0 1 = cc in absurd (omega arith)
+  segment-asks found t (Continuation k) w q = let z : _≡_ {A = ℕ} 0 1 = cc in absurd (omega arith)
 
   close-asks : (found : Found) (w : Socket) → found ≢ At s → closedAt found ≡ A.Close w → s ≢ socketPlace w
   close-asks (At j) w h q e =
@@ -168,7 +168,7 @@ module _ (tray : Tray) (area : List ℕ) (s id : ℕ) (used : inUse (getD (tray 
 
   -- a Close that is sent is that of another socket
   asks-other : (p : Parsed) → leavesOpen id p ≡ true → (w : Socket) → sentOf (tray .links) (addressed (tray .links) p) p ≡ A.Close w → s ≢ socketPlace w
-  asks-other (P.Segment g) e w q = absurd (start-asks (find (tray .links) (g .id)) (g .number) (g .header) w q)
+  asks-other (P.Segment g) e w q = absurd (segment-asks (find (tray .links) (g .id)) (g .number) (g .header) w q)
   asks-other (P.Acknowledgement i t) e w q = let z : _≡_ {A = ℕ} 0 1 = cc in absurd (omega arith)
   asks-other (P.Open i uuid) e w q = let z : _≡_ {A = ℕ} 0 1 = cc in absurd (omega arith)
   asks-other (P.Ack i) e w q = let z : _≡_ {A = ℕ} 0 1 = cc in absurd (omega arith)
@@ -251,7 +251,7 @@ module _ (s : Socket) (id : ℕ) where
       let k = heard-stays (m .log .tray) (m .area) (socketPlace s) id (w .used) (w .hasId) (octetsOf line) (frame-octets line p) e (numberIn m) in
       still-waits m (after m line) w (rw (heard-line (m .log .tray) (m .area) (numberIn m) line p) k)
 
-  -- and stays open once it is
+  -- it waits still, and is open if it was
   pub record Keeps (m n : Import) : Type 0 where
     pub waits : Waits n s id
     pub opened : linkAt (m .log .tray .links) s .state ≡ S.Open → linkAt (n .log .tray .links) s .state ≡ S.Open
