@@ -6,7 +6,6 @@ use mathlib.Core.Logic.{_≢_}
 use mathlib.Core.Path.{_≡_}
 use lib.Dec.{eqb}
 use lib.ListN.{drop}
-use Rattle.octets.specs.Numbers.{Octets}
 use Rattle.hex.specs.Hex.{octetsOf}
 use Rattle.transactions.specs.Numbers.{isSocket, socketPlace}
 use Rattle.transactions.specs.declared.Socket.{Socket}
@@ -32,7 +31,7 @@ use Rattle.import_tray.specs.Trays.{stockAt}
 use Rattle.import_tray.specs.declared.Stock.the-variants as K
 use Rattle.import_tray.specs.declared.Report.the-variants as R
 use Rattle.import_lines.specs.Lines.{isFrame, isSent}
-use Rattle.import_log.specs.Logs.{Import, reportIn, after, afterAll, atFirst, numberIn}
+use Rattle.import_log.specs.Logs.{Import, reportIn, afterAll, atFirst, numberIn}
 use Rattle.import_log.specs.Records.{Opens, fieldsOf, messageOrigin}
 
 -- the link of socket s is open under a Link ID, awaits number t, has nothing half-received under t, and the socket has no record since its opening
@@ -47,7 +46,6 @@ pub record Expects (m : Import) (s : Socket) (id : ℕ) (t : TransactionNumber) 
 
 -- a line with the frame of a Capabilities message that the reader accepts
 pub record Answering (line : List ℕ) (id : ℕ) (t : TransactionNumber) (octets : List ℕ) : Type 0 where
-  pub areOctets : Octets octets
   pub accepted : (c : Capabilities) × (messageRead octets ≡ M.Capabilities c)
   pub isHexadecimal : isFrame line ≡ true
   pub frame : octetsOf line ≡ segmentFrame id t octets 0
