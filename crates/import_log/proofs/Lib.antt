@@ -1,3 +1,10 @@
+pub mod Operations
+pub mod Deliveries
+pub mod Openings
+pub mod Rows
+pub mod Came
+pub mod Stock
+pub mod Records
 pub mod Steps
 pub mod Goodness
 pub mod AtOnce

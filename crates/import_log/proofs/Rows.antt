@@ -1,0 +1,225 @@
+-- What a line writes: nothing, a refusal, or what becomes of a message that its frame delivers; and what it does to the stock.
+use Prim.Native.Nat.{ℕ, _*_}
+use mathlib.Core.Bool.{true, false}
+use mathlib.Core.List.{List, [], _∷_}
+use mathlib.Core.Path.{_≡_, refl, ap, _∙_}
+use lib.ListN.{length, drop, set, length-set}
+use Rattle.octets.specs.Parts.{part}
+use Rattle.octets.proofs.Tests.{cases}
+use Rattle.hex.specs.Hex.{octetsOf}
+use Rattle.transactions.specs.Numbers.{socketPlace}
+use Rattle.transactions.specs.declared.Socket.{Socket}
+use Rattle.transactions.specs.declared.TransactionNumber.{TransactionNumber}
+use Rattle.pb_adv.specs.Frame.{parsed}
+use Rattle.links.specs.Links.{blankWith, find, refusalNumber, told}
+use Rattle.links.specs.Station.{Station, isFound, received, localOpen, localSend, localClose}
+use Rattle.links.specs.Promises.{addressed}
+use Rattle.links.specs.declared.Side.the-variants.{Provisioner}
+use Rattle.links.specs.declared.LinkState.the-variants as L
+use Rattle.links.specs.declared.Link.{Link}
+use Rattle.links.specs.declared.Found.{Found}
+use Rattle.links.specs.declared.Found.the-variants.{At, Nowhere}
+use Rattle.links.specs.declared.Answer.{Answer}
+use Rattle.links.specs.declared.Answer.the-variants as A
+use Rattle.links.proofs.Local.{Calls, refusal, written, open-calls}
+use Rattle.provisioning.specs.Message.{messageRead}
+use Rattle.provisioning.specs.declared.Capabilities.{Capabilities}
+use Rattle.provisioning.specs.declared.Message.{Message}
+use Rattle.line_fields.specs.declared.Word.the-variants as W
+use Rattle.stock_table.specs.declared.Origin.{Origin}
+use Rattle.import_tray.specs.Trays.{stockOf, withLinks, stockAt, nothingAfter}
+use Rattle.import_tray.specs.declared.SocketStock.{SocketStock}
+use Rattle.import_tray.specs.declared.Stock.{Stock}
+use Rattle.import_tray.specs.declared.Stock.the-variants as K
+use Rattle.import_tray.specs.declared.Tray.{Tray}
+use Rattle.import_tray.specs.declared.Report.{Report}
+use Rattle.import_tray.specs.declared.Report.the-variants as R
+use Rattle.import_tray.specs.declared.Step.{Step}
+use Rattle.import_messages.specs.Messages.{readingOf, capabilitiesBy, messageBy, messageStep}
+use Rattle.import_messages.specs.declared.Reading.{Reading}
+use Rattle.import_messages.specs.declared.Reading.the-variants as G
+use Rattle.import_frames.specs.Origins.{outcomeOf, frameOrigin}
+use Rattle.import_frames.specs.Heard.{nextOf, isRepeat, refusedReport, deliveredStep, heardBy, heardStep}
+use Rattle.import_frames.specs.Sent.{sentOf, localBy, sentBy, sentStep}
+use Rattle.import_frames.specs.declared.Outcome.{Outcome}
+use Rattle.import_frames.specs.declared.Outcome.the-variants as O
+use Rattle.import_frames.specs.declared.Asked.{Asked}
+use Rattle.import_frames.specs.declared.Asked.the-variants as Q
+use Rattle.import_lines.specs.Lines.{isFrame, isMarkedSent, isOpening, isPassed, socketIn, idIn, openedBy, openedStep, plainStep, otherStep, sentLine, unheardStep, lineStep}
+use Rattle.import_log.specs.Logs.{Import, stepOf, after, afterAll, numberIn}
+use Rattle.import_log.specs.Records.{Opens}
+use Rattle.import_log.proofs.Operations.{stationIn}
+
+-- ---- reports
+
+-- nothing, or a refusal
+abbrev pub Refuses : Report → Type 0
+Refuses R.Nothing = Unit {0}
+Refuses (R.Row row) = row .what ≡ W.Refused
+
+-- no more than that, and the stock stays
+pub record Quiet (stock : List SocketStock) (step : Step) : Type 0 where
+  pub refuses : Refuses (step .report)
+  pub same : step .tray .stock ≡ stock
+
+-- a line whose frame delivers a message of so many octets under a number
+pub record Delivered (m : Import) (line : List ℕ) : Type 0 where
+  pub isHexadecimal : isFrame line ≡ true
+  pub long : ℕ
+  pub number : TransactionNumber
+  pub place : ℕ
+  pub answer : received Provisioner (stationIn m) (octetsOf line) .0 ≡ A.Delivered long number
+  pub isFor : addressed (m .log .tray .links) (parsed (octetsOf line)) ≡ At place
+
+-- the message as it is read, and what becomes of it
+abbrev pub readFrom : (m : Import) (line : List ℕ) → Delivered m line → Message
+readFrom m line d = messageRead (part (received Provisioner (stationIn m) (octetsOf line) .1 .area) (1469 * d .place) (d .long))
+
+abbrev pub stepFrom : (m : Import) (line : List ℕ) → Delivered m line → Step
+stepFrom m line d =
+    messageStep (withLinks (m .log .tray) (received Provisioner (stationIn m) (octetsOf line) .1 .links)) (d .place) (numberIn m)
+    (frameOrigin (At (d .place)) (parsed (octetsOf line))) (readFrom m line d)
+
+-- a line is quiet, opens a socket, or delivers a message
+pub data Says (m : Import) (line : List ℕ) (step : Step) : Type 0 where
+  quiet : Quiet (m .log .tray .stock) step → Says m line step
+  opens : (s : Socket) (id : ℕ) → Opens m line s id → step .report ≡ R.Nothing → step .tray .stock ≡ set (m .log .tray .stock) (socketPlace s) (stockOf K.Missing) → Says m line step
+  tells : (d : Delivered m line) → step ≡ stepFrom m line d → Says m line step
+
+module _ (m : Import) (line : List ℕ) where
+  abbrev tray : Tray
+  tray = m .log .tray
+
+  abbrev number : ℕ
+  number = numberIn m
+
+  -- ---- a frame heard
+
+  module _ (isOne : isFrame line ≡ true) where
+    abbrev f : List ℕ
+    f = octetsOf line
+
+    abbrev done : Answer × Station
+    done = received Provisioner (stationIn m) f
+
+    abbrev behind : Tray
+    behind = withLinks tray (done .1 .links)
+
+    -- an answer that writes nothing
+    silent : Says m line (nothingAfter behind)
+    silent = quiet (record { refuses = tt; same = refl })
+
+    refused-says : (n : ℕ) → Refuses (refusedReport (tray .links) (parsed f) number n)
+    refused-says n = cases (isRepeat (nextOf (tray .links) (addressed (tray .links) (parsed f))) (parsed f) n) (λ e. rw e tt) (λ e. rw e refl)
+
+    at : (n : ℕ) (t : TransactionNumber) → done .0 ≡ A.Delivered n t → (found : Found) → addressed (tray .links) (parsed f) ≡ found
+        → Says m line (deliveredStep found (parsed f) behind (done .1 .area) number n)
+    at n t e (At s) q = tells (record { isHexadecimal = isOne; long = n; number = t; place = s; answer = e; isFor = q }) refl
+    at n t e Nowhere q = silent
+
+    by-answer : (a : Answer) → done .0 ≡ a → Says m line (heardBy (outcomeOf a) (tray .links) (parsed f) behind (done .1 .area) number)
+    by-answer (A.Refused r) e = quiet (record { refuses = refused-says (refusalNumber r); same = refl })
+    by-answer A.AcknowledgeAgain e = silent
+    by-answer A.Kept e = silent
+    by-answer A.Repeat e = silent
+    by-answer (A.Delivered n t) e = at n t e (addressed (tray .links) (parsed f)) refl
+    by-answer A.Opened e = silent
+    by-answer A.Already e = silent
+    by-answer (A.Closed reason) e = silent
+    by-answer A.Acknowledged e = silent
+    by-answer (A.Sending t n) e = silent
+    by-answer A.Done e = silent
+
+    heard-says : Says m line (heardStep tray (m .area) number f)
+    unfolding heardStep
+    heard-says = by-answer (done .0) refl
+
+  -- ---- a frame sent
+
+  local-quiet : (o : Outcome) (t : Tray) (origin : Origin) → t .stock ≡ tray .stock → Quiet (tray .stock) (localBy o t number origin)
+  local-quiet (O.Refused n) t origin e = record { refuses = refl; same = e }
+  local-quiet (O.Delivered n u) t origin e = record { refuses = tt; same = e }
+  local-quiet O.Nothing t origin e = record { refuses = tt; same = e }
+
+  sent-quiet : (f : List ℕ) → Quiet (tray .stock) (sentStep tray number f)
+  unfolding sentStep
+  sent-quiet f = by (sentOf (tray .links) (addressed (tray .links) (parsed f)) (parsed f)) (frameOrigin (addressed (tray .links) (parsed f)) (parsed f))
+    where
+      by : (a : Asked) (origin : Origin) → Quiet (tray .stock) (sentBy a tray number origin)
+      by Q.Nothing origin = record { refuses = tt; same = refl }
+      by (Q.Refused n) origin = record { refuses = refl; same = refl }
+      by (Q.Send s n) origin =
+          let r = localSend Provisioner (tray .links) s n in
+          local-quiet (outcomeOf (r .0)) (withLinks tray (r .1)) origin refl
+      by (Q.Close s) origin =
+          let r = localClose Provisioner (tray .links) s in
+          local-quiet (outcomeOf (r .0)) (withLinks tray (r .1)) origin refl
+
+  -- ---- an opening
+
+  open-says : isOpening line ≡ true → Says m line (openedStep tray number (socketIn line) (idIn line))
+  unfolding openedStep
+  open-says form = of (open-calls Provisioner (tray .links) (socketIn line) (idIn line))
+    where
+      s : Socket
+      s = socketIn line
+
+      id : ℕ
+      id = idIn line
+
+      of : Calls Provisioner (tray .links) s (isFound (find (tray .links) id) ≡ false) A.Done (blankWith Provisioner L.Opening id) (localOpen Provisioner (tray .links) s id)
+          → Says m line (openedBy (outcomeOf (localOpen Provisioner (tray .links) s id .0)) (withLinks tray (localOpen Provisioner (tray .links) s id .1)) number s id)
+      of (refusal q e) = rw e (quiet (record { refuses = refl; same = refl }))
+      of (written r g u e) =
+          let w : Opens m line s id = record { form = form; socket = refl; linkId = refl; done = ap (λ (x : Answer × List Link). told (x .0)) e } in
+          rw e (opens s id w refl refl)
+
+  -- ---- any line
+
+  unheard-says : Says m line (unheardStep tray number line)
+  unfolding unheardStep sentLine otherStep plainStep
+  unheard-says =
+      cases (isMarkedSent line)
+      (λ e. rw e (cases (isFrame (drop 1 line)) (λ g. rw g (quiet (sent-quiet (octetsOf (drop 1 line))))) (λ g. rw g (quiet (record { refuses = refl; same = refl })))))
+      (λ e. rw e (cases (isOpening line) (λ g. rw g (open-says g))
+      (λ g. rw g (cases (isPassed line) (λ p. rw p (quiet (record { refuses = tt; same = refl }))) (λ p. rw p (quiet (record { refuses = refl; same = refl })))))))
+
+  pub says : Says m line (stepOf (m .log) (m .area) line)
+  unfolding lineStep
+  says = cases (isFrame line) (λ e. rw e (heard-says e)) (λ e. rw e unheard-says)
+
+-- ---- the stock
+
+-- a message leaves the stock, or records its fields at its place
+pub data Restocks (old : List SocketStock) (s : ℕ) (new : List SocketStock) : Type 0 where
+  stays : new ≡ old → Restocks old s new
+  records : (c : Capabilities) → new ≡ set old s (stockOf (K.Recorded c)) → Restocks old s new
+
+pub restocks : (tray : Tray) (s number : ℕ) (origin : Origin) (message : Message) → Restocks (tray .stock) s (messageStep tray s number origin message .tray .stock)
+restocks tray s number origin message = by (readingOf message)
+  where
+    by-stock : (c : Capabilities) (k : Stock) → Restocks (tray .stock) s (capabilitiesBy k tray s number origin c .tray .stock)
+    by-stock c K.Unopened = records c refl
+    by-stock c K.Missing = records c refl
+    by-stock c (K.Recorded first) = stays refl
+
+    by : (r : Reading) → Restocks (tray .stock) s (messageBy r tray s number origin message .tray .stock)
+    by (G.Record c) = by-stock c (stockAt tray s)
+    by (G.Refused n) = stays refl
+    by G.Other = stays refl
+
+pub stock-count : (m : Import) (line : List ℕ) → length (after m line .log .tray .stock) ≡ length (m .log .tray .stock)
+stock-count m line = of (says m line)
+  where
+    of-message : {s : ℕ} {new : List SocketStock} → Restocks (m .log .tray .stock) s new → length new ≡ length (m .log .tray .stock)
+    of-message (stays e) = ap length e
+    of-message {s} (records c e) = ap length e ∙ length-set (m .log .tray .stock) s _
+
+    of : {step : Step} → Says m line step → length (step .tray .stock) ≡ length (m .log .tray .stock)
+    of (quiet q) = ap length (q .same)
+    of (opens s id w r e) = ap length e ∙ length-set (m .log .tray .stock) (socketPlace s) _
+    of (tells d q) = ap (λ (x : Step). length (x .tray .stock)) q ∙ of-message (restocks _ (d .place) _ _ (readFrom m line d))
+
+pub stock-counts : (m : Import) (lines : List (List ℕ)) → length (afterAll m lines .log .tray .stock) ≡ length (m .log .tray .stock)
+stock-counts m [] = refl
+stock-counts m (line ∷ lines) = stock-counts (after m line) lines ∙ stock-count m line
