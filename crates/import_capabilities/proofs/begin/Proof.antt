@@ -30,7 +30,7 @@ same-length : tie.Need-same-length
 same-length c = search needs
 
 returns : tie.Need-returns
-returns c = 
+returns c =
     let output = c .before .before .before .before .before .before .before .before .before .before .args .output .now in
     let w = c .before .before .before .before .before .before .before .write-header in
     let long : length headerLine ≤ length output = omega (arith, w .ensures .2, c .before .before .before .before .before .before .before .before .before .before .pre) in

@@ -21,7 +21,7 @@ same-length-2 : tie.Need-same-length-2
 same-length-2 c = search needs
 
 returns : tie.Need-returns
-returns c = 
+returns c =
     let w = c .before .before .before .before .before .before .before .before .before .before .whole-line .ensures in
     let t = rw w at (c .before .before .before .before .before .before .before .before .take-held .ensures) in
     record {

@@ -1,73 +1,87 @@
+use native.Mathlib.Omega.{arith}
+use Prim.Native.Nat.{_≤_}
+use lib.ListN.{length, replicate}
+use mathlib.Core.Path.{_≡_, refl, ap}
+use Rattle.lines.specs.declared.Streams.{Streams}
+use Rattle.lines.specs.Runs.{RunsTo}
+use Rattle.lines.proofs.Runs.{runs-begin, runs-on, runs-out}
+use Rattle.import_capabilities.specs.Runs.{stateOf, program, first}
+use borrow.Author.Needs.{needs}
 use Rattle.import_capabilities.proofs.run.Statement.{statement}
 use Rattle.import_capabilities.proofs.run.Tie as tie
-use Rattle.import_capabilities.proofs.run.Reads as reads
-use Rattle.import_capabilities.proofs.run.Lts as lts
-use Rattle.import_capabilities.proofs.begin.Reads as begin-reads
-use Rattle.import_capabilities.proofs.put_end.Reads as put-end-reads
-use Rattle.import_capabilities.proofs.take_turn.Reads as take-turn-reads
-use Rattle.lines.proofs.flush.Reads as flush-reads
 
 abbrev Inv-loop : tie.InvT-loop
-Inv-loop descriptor input₀ area₀ output₀ progress₀ turns₀ input area output progress turns = ?
+Inv-loop descriptor input₀ area₀ output₀ progress₀ turns₀ input area output progress turns =
+    (length input ≡ length input₀)
+    × (length area ≡ length area₀)
+    × (length output ≡ length output₀)
+    × RunsTo program (first progress₀ input₀ output₀) (stateOf progress input area output) turns
 
 abbrev μ-loop : tie.MeasureT-loop
-μ-loop descriptor input₀ area₀ output₀ progress₀ turns₀ input area output progress turns = ?
+μ-loop descriptor input₀ area₀ output₀ progress₀ turns₀ input area output progress turns = turns
 
--- src/main.rt:202:9
 begin-requires : tie.Need-begin-requires Inv-loop μ-loop
-begin-requires c κs = ?
+begin-requires c κs = search needs
 
--- src/main.rt:205:5
 loop-holds : tie.Need-loop-holds Inv-loop μ-loop
-loop-holds c = ?
+loop-holds c =
+    let b = c .before .before .begin .ensures in
+    (refl, refl, refl, rw (c .before .before .before .before .before .before .before .pre .0) (runs-begin program _ (ap (λ (s : Streams). s .found) (b .streams))))
 
--- src/main.rt:206:9
 take-turn-requires : tie.Need-take-turn-requires Inv-loop μ-loop
-take-turn-requires c κs = ?
+take-turn-requires c κs = search needs
 
--- src/main.rt:209:13
 sub-turns : tie.Need-sub-turns Inv-loop μ-loop
-sub-turns c = ?
+sub-turns c = search needs
 
--- src/main.rt:205:5
 loop-less : tie.Need-loop-less Inv-loop μ-loop
-loop-less c = ?
+loop-less c = search needs
 
--- src/main.rt:205:5
 loop-again : tie.Need-loop-again Inv-loop μ-loop
-loop-again c = ?
+loop-again c =
+    let t = c .before .before .before .before .before .before .before .before .take-turn .ensures in
+    (search needs, search needs, search needs, runs-on program _ (c .before .before .before .before .before .before .before .before .before .before .before .before .before .loop .inv .3) (omega arith) _ t (c .if1 .taken))
 
--- src/main.rt:205:5
 loop-less-2 : tie.Need-loop-less-2 Inv-loop μ-loop
-loop-less-2 c = ?
+loop-less-2 c = search needs
 
--- src/main.rt:205:5
 loop-again-2 : tie.Need-loop-again-2 Inv-loop μ-loop
-loop-again-2 c = ?
+loop-again-2 c =
+    let t = c .before .before .before .before .before .before .before .before .take-turn .ensures in
+    (search needs, search needs, search needs, runs-out program _ (c .before .before .before .before .before .before .before .before .before .before .before .before .before .loop .inv .3) (omega arith) _ t (c .if1 .left))
 
--- src/main.rt:214:9
 put-end-requires : tie.Need-put-end-requires Inv-loop μ-loop
-put-end-requires c κs = ?
+put-end-requires c κs = search needs
 
--- src/main.rt:218:18
 flush-requires : tie.Need-flush-requires Inv-loop μ-loop
-flush-requires c κs = ?
+flush-requires c κs = search needs
 
--- src/main.rt:198:1
 same-length : tie.Need-same-length Inv-loop μ-loop
-same-length c = ?
+same-length c = search needs
 
--- src/main.rt:198:1
 same-length-2 : tie.Need-same-length-2 Inv-loop μ-loop
-same-length-2 c = ?
+same-length-2 c = search needs
 
--- src/main.rt:198:1
 same-length-3 : tie.Need-same-length-3 Inv-loop μ-loop
-same-length-3 c = ?
+same-length-3 c = search needs
 
--- src/main.rt:198:1
 returns : tie.Need-returns Inv-loop μ-loop
-returns c = ?
+returns c =
+    let l = c .before .before .before .before .before .before .before .before .before .loop in
+    let none : l .turns ≡ 0 = omega arith in
+    record {
+      start = c .before .before .before .before .before .before .before .before .before .before .before .before .begin .result;
+      outputAtStart = c .before .before .before .before .before .before .before .before .before .before .before .before .begin .last .0;
+      starts = c .before .before .before .before .before .before .before .before .before .before .before .before .begin .ensures;
+      last = l .progress;
+      outputAtLast = l .output;
+      run = rw none at (l .inv .3);
+      streams = c .before .before .before .before .before .before .put-end .result;
+      end = c .before .before .before .before .before .before .put-end .ensures;
+      flushed = c .flush .ensures .0;
+      line = refl;
+      log = refl;
+    }
 
 pub run-spec : {M : Type 1} → statement M
 run-spec =

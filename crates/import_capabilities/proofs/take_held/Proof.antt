@@ -12,13 +12,13 @@ smaller-requires : tie.Need-smaller-requires
 smaller-requires c κs = search needs
 
 array-share-prefix-characters : tie.Need-array-share-prefix-characters
-array-share-prefix-characters c = 
+array-share-prefix-characters c =
     let a = c .before .before .before .before .args in
     let long : length (a .line .characters) ≡ 64 = search needs in
     omega (arith, c .before .smaller .ensures)
 
 slice-aggregate-take-line : tie.Need-slice-aggregate-take-line
-slice-aggregate-take-line c = 
+slice-aggregate-take-line c =
     let a = c .before .before .before .before .before .args in
     let long : length (a .line .characters) ≡ 64 = search needs in
     sym (length-take-le (c .before .before .smaller .result) (a .line .characters) (omega (arith, c .before .before .smaller .ensures)))
@@ -30,7 +30,7 @@ same-length : tie.Need-same-length
 same-length c = search needs
 
 returns : tie.Need-returns
-returns c = 
+returns c =
     let a = c .before .before .before .before .before .before .before .before .args in
     let long : length (a .line .characters) ≡ 64 = search needs in
     rw (c .before .before .before .before .before .smaller .ensures, held-within (a .line .characters) (a .line .count) long) at (c .before .before .take-line .ensures)

@@ -26,7 +26,7 @@ same-length-3 : tie.Need-same-length-3
 same-length-3 c = search needs
 
 returns : tie.Need-returns
-returns c = 
+returns c =
     let r = c .before .before .before .before .before .before .before .before .before .before .before .before .read-on in
     let w = rw (c .before .before .before .before .before .before .before .before .before .begun .ensures) at (sym (c .before .before .before .before .before .before .before .before .is-whole .ensures) ∙ c .before .before .before .before .before .before .before .if1 .taken) in
     record {
@@ -43,7 +43,7 @@ same-length-5 : tie.Need-same-length-5
 same-length-5 c = search needs
 
 returns-2 : tie.Need-returns-2
-returns-2 c = 
+returns-2 c =
     let r = c .before .before .before .before .before .read-on in
     let n = rw (c .before .before .begun .ensures) at (sym (c .before .is-whole .ensures) ∙ c .if1 .left) in
     record {
