@@ -13,12 +13,11 @@ use Rattle.octets.specs.Writing.{written, outputAfter}
 use Rattle.octets.specs.declared.Written.the-variants.{Count}
 use Rattle.octets.proofs.Parts.{write-nothing}
 use Rattle.octets.proofs.Tests.{cases}
-use Rattle.lines.specs.Streams.{TextWaits}
 use Rattle.lines.specs.declared.Streams.{Streams}
 use Rattle.lines.proofs.Laws.{behind, behind-long}
 use Rattle.import_tray.specs.Trays.{reportText, lastReport}
 use Rattle.import_tray.specs.declared.Tray.{Tray}
-use Rattle.import_capabilities.specs.Turns.{SocketsPut}
+use Rattle.import_capabilities.specs.Turns.{RowWaits, SocketsPut}
 use Rattle.import_capabilities.specs.Turns.SocketsPut.{none, more}
 
 -- an output that nothing is written to
@@ -41,7 +40,7 @@ text-put output at fits text short = text-fits text (behind output at) short (om
 -- ---- one socket more
 
 pub sockets-more : {tray : Tray} {s before r : Streams} {output between after : List ℕ} (k : ℕ) → 1 ≤ k → SocketsPut tray s output (k - 1) before between
-    → TextWaits before between 315 (reportText (lastReport tray (record { 0 = k }))) r after → SocketsPut tray s output (k + 1 - 1) r after
+    → RowWaits before between (reportText (lastReport tray (record { 0 = k }))) r after → SocketsPut tray s output (k + 1 - 1) r after
 sockets-more zero h m t = absurd (omega arith)
 sockets-more (suc n) h m t =
     let e : suc n - 1 ≡ n = omega arith in

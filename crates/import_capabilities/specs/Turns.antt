@@ -1,9 +1,10 @@
 -- What the program does: in a turn a piece of the input more is held, and where the line is then whole, it is taken; after the last line the rows of
 -- the sockets and the last row.
-use Prim.Native.Nat.{ℕ, zero, suc, _+_}
+use Prim.Native.Nat.{ℕ, zero, suc, _≤_}
 use mathlib.Core.Bool.{true, false, cond}
 use mathlib.Core.List.{List}
 use mathlib.Core.Path.{_≡_}
+use lib.ListN.{length}
 use Rattle.octets.specs.declared.Written.{Written}
 use Rattle.octets.specs.declared.Written.the-variants.{Count, WrongArgument}
 use Rattle.lines.specs.Streams.{pieceIn, withWaiting, waitingAfter, TextWaits, Found, isWhole}
@@ -24,6 +25,11 @@ abbrev pub waitingWith : Streams → Written → List ℕ → Streams
 waitingWith s (Count n) output = withWaiting s (waitingAfter (s .waiting) output n) (s .taken)
 waitingWith s WrongArgument output = s
 
+-- the text of a row, or none, waits behind what waited
+pub record RowWaits (s : Streams) (output text : List ℕ) (r : Streams) (after : List ℕ) : Type 0 where
+  pub waits : TextWaits s output 315 text r after
+  pub short : length text ≤ 315
+
 -- ---- a turn
 
 -- a piece more: the next one of the input is held
@@ -41,7 +47,7 @@ lineTaken p area = taken (p .log) area (heldText (wholeLine (p .streams) (p .lin
 
 -- the line's end: it is taken, its row waits, and nothing is held
 pub record LineEnded (p : Progress) (area output : List ℕ) (r : Progress) (areaAtEnd outputAtEnd : List ℕ) : Type 0 where
-  pub text : TextWaits (p .streams) output 315 (reportText (lineTaken p area .report)) (r .streams) outputAtEnd
+  pub text : RowWaits (p .streams) output (reportText (lineTaken p area .report)) (r .streams) outputAtEnd
   pub none : r .line ≡ emptyLine
   pub log : r .log ≡ lineTaken p area .log
   pub lent : areaAtEnd ≡ areaAfter (p .log) area (heldText (wholeLine (p .streams) (p .line)))
@@ -58,14 +64,14 @@ pub record Turn (p : Progress) (input area output : List ℕ) (r : Progress) (in
 pub data SocketsPut (tray : Tray) (s : Streams) (output : List ℕ) : ℕ → Streams → List ℕ → Type 0 where
   none : SocketsPut tray s output zero s output
   more : {n : ℕ} {before r : Streams} {between after : List ℕ} → SocketsPut tray s output n before between
-      → TextWaits before between 315 (reportText (lastReport tray (record { 0 = suc n }))) r after → SocketsPut tray s output (suc n) r after
+      → RowWaits before between (reportText (lastReport tray (record { 0 = suc n }))) r after → SocketsPut tray s output (suc n) r after
 
 -- those of all eight, and the last row
 pub record LastPut (log : Log) (s : Streams) (output : List ℕ) (r : Streams) (after : List ℕ) : Type 0 where
   pub between : Streams
   pub outputBetween : List ℕ
   pub sockets : SocketsPut (log .tray) s output 8 between outputBetween
-  pub last : TextWaits between outputBetween 315 (rowLine (endRow (log .lines))) r after
+  pub last : RowWaits between outputBetween (rowLine (endRow (log .lines))) r after
 
 -- where the end of the input was met; a table that was cut short has none of them
 pub record EndPut (p : Progress) (output : List ℕ) (r : Streams) (after : List ℕ) : Type 0 where

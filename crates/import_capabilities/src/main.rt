@@ -14,11 +14,10 @@ ghost use mathlib.Core.Path.{_≡_};
 ghost use Prim.Native.Nat.{_≤_, min};
 ghost use lib.ListN.{length, replicate};
 ghost use Rattle.octets.specs.Writing.{written, outputAfter};
-ghost use Rattle.lines.specs.Streams.{TextWaits};
 ghost use Rattle.held_line.specs.Lines.{heldText};
 ghost use Rattle.import_tray.specs.Trays.{reportText, lastReport};
 ghost use Rattle.import_log.specs.Logs.{taken, areaAfter};
-ghost use Rattle.import_capabilities.specs.Turns.{waitingWith, wholeLine, PieceHeld, LineEnded, Turn, SocketsPut, LastPut, EndPut};
+ghost use Rattle.import_capabilities.specs.Turns.{waitingWith, RowWaits, wholeLine, PieceHeld, LineEnded, Turn, SocketsPut, LastPut, EndPut};
 ghost use Rattle.import_capabilities.specs.Runs.{Starts, Ran};
 
 // How far the program has come.
@@ -54,7 +53,7 @@ fn write_report(report: Report, output: &mut [u8]) -> Written
 // The row of a report waits.
 fn put_report(before: Streams, report: Report, output: &mut [u8]) -> Streams
     requires { ⌜ 315 ≤ length (now output) ⌝ }
-    ensures { λ r. ⌜ TextWaits before (now (output .entry)) 315 (reportText report) r (now (output .exit)) ⌝ }
+    ensures { λ r. ⌜ RowWaits before (now (output .entry)) (reportText report) r (now (output .exit)) ⌝ }
 {
     let streams = lines::make_room(before, output, MOST);
     let waiting = streams.waiting;
@@ -152,7 +151,7 @@ fn begin(output: &mut [u8]) -> Progress
 // What is said of a socket after the last line.
 fn put_socket(log: Log, socket: Socket, before: Streams, output: &mut [u8]) -> Streams
     requires { ⌜ 315 ≤ length (now output) ⌝ }
-    ensures { λ r. ⌜ TextWaits before (now (output .entry)) 315 (reportText (lastReport (log .tray) socket)) r (now (output .exit)) ⌝ }
+    ensures { λ r. ⌜ RowWaits before (now (output .entry)) (reportText (lastReport (log .tray) socket)) r (now (output .exit)) ⌝ }
 {
     let report = import_tray::last_report(log.tray, socket);
     put_report(before, report, output)

@@ -35,9 +35,11 @@ returns c =
     let fits = room .ensures .2 (c .before .before .before .before .before .before .before .before .before .pre) in
     let text = reportText (a .report) in
     let put = text-put (a .output .now) (room .result .waiting) fits text (m .ensures .2) in
-    rw (m .ensures .1, put .1)
-    (text-waits (a .before) (room .result) (c .waits .result) (a .output .now) 315 text (room .ensures .0) (omega (arith, fits, m .ensures .2))
-    (rw (m .ensures .0, put .0, m .ensures .1, put .1) at (c .waits .ensures)))
+    rw (m .ensures .1, put .1) (record {
+      waits = text-waits (a .before) (room .result) (c .waits .result) (a .output .now) 315 text (room .ensures .0) (omega (arith, fits, m .ensures .2))
+          (rw (m .ensures .0, put .0, m .ensures .1, put .1) at (c .waits .ensures));
+      short = m .ensures .2;
+    })
 
 pub put-report-spec : {M : Type 1} → statement M
 put-report-spec =
