@@ -129,7 +129,8 @@ fn take_turn(
     ensures { λ r. ⌜ Turn progress (now (input .entry)) (now (area .entry)) (now (output .entry)) r (now (input .exit)) (now (area .exit)) (now (output .exit)) ⌝ }
 {
     let read = read_on(progress, descriptor, input, output);
-    if lines::is_whole(read.streams, held_line::begun(read.line)) {
+    let begun = held_line::begun(read.line);
+    if lines::is_whole(read.streams, begun) {
         return end_line(read, area, output);
     }
     read
