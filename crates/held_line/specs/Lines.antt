@@ -1,5 +1,5 @@
 -- The line so far, piece by piece, with its carriage returns: "One carriage return straight before a newline is no part of the line (one at the end of
--- input is)."
+-- input is)." Quotations are of `docs/IMPORT.md`.
 use Prim.Native.Nat.{ℕ, _-_, _≤_}
 use mathlib.Core.Bool.{Bool, false, not, cond}
 use mathlib.Core.List.{List, [], _∷_}

@@ -1,5 +1,5 @@
 -- THE TABLE OF A LOG, one function from all octets read to all octets written: the header, the rows of the lines, and those after the last line. A run puts
--- exactly that text, however the system hands the input over. The proofs are `proofs/Table.antt`.
+-- exactly that text, however the system hands the input over. The proofs are `proofs/Table.antt`. Quotations are of `docs/IMPORT.md`.
 use Prim.Native.Nat.{ℕ, _≤_}
 use mathlib.Core.Bool.{true, false}
 use mathlib.Core.List.{List, _++_}

@@ -1,4 +1,4 @@
--- A frame as it was heard: the receiving call, and what is written of its answer.
+-- A frame as it was heard: the receiving call, and what is written of its answer. Quotations are of `docs/IMPORT.md`.
 use Prim.Native.Nat.{ℕ, _+_, _*_}
 use mathlib.Core.Bool.{Bool, false, _&&_, cond}
 use mathlib.Core.List.{List}

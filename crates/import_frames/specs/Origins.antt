@@ -1,4 +1,4 @@
--- What an answer of the station comes to, and what a row says of the frame that it comes from.
+-- What an answer of the station comes to, and what a row says of the frame that it comes from. Quotations are of `docs/IMPORT.md`.
 use Prim.Native.Nat.{ℕ, _+_, _<_}
 use Rattle.pb_adv.specs.declared.Parsed.{Parsed}
 use Rattle.pb_adv.specs.declared.Parsed.the-variants as P

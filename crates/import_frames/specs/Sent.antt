@@ -1,4 +1,4 @@
--- A frame as the station sent it: "A sent frame keeps the link's record as the station had it".
+-- A frame as the station sent it: "A sent frame keeps the link's record as the station had it". Quotations are of `docs/IMPORT.md`.
 use Prim.Native.Nat.{ℕ}
 use mathlib.Core.Bool.{Bool, not, _&&_, cond}
 use mathlib.Core.List.{List}

@@ -1,4 +1,4 @@
--- One line of a tray's log: what it does to the tray and the lent area, and what it writes.
+-- One line of a tray's log: what it does to the tray and the lent area, and what it writes. Quotations are of `docs/IMPORT.md`.
 use Prim.Native.Nat.{ℕ, _-_, _/_}
 use mathlib.Core.Bool.{Bool, _&&_, _||_, cond}
 use mathlib.Core.List.{List, []}

@@ -1,4 +1,4 @@
--- What becomes of a message that was delivered.
+-- What becomes of a message that was delivered. Quotations are of `docs/IMPORT.md`.
 use Prim.Native.Nat.{ℕ}
 use mathlib.Core.Bool.{Bool, _&&_, cond}
 use lib.Dec.{eqb}

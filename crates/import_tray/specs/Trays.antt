@@ -1,4 +1,4 @@
--- A tray: its link records, and what the table has of each socket; and what a line does to it and writes.
+-- A tray: its link records, and what the table has of each socket; and what a line does to it and writes. Quotations are of `docs/IMPORT.md`.
 use Prim.Native.Nat.{ℕ}
 use mathlib.Core.List.{List, []}
 use lib.ListN.{getD, set, replicate}

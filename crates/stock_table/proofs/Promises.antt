@@ -24,9 +24,11 @@ use Rattle.line_fields.specs.declared.Word.the-variants as W
 use Rattle.line_fields.specs.declared.Field.{Field}
 use Rattle.line_fields.specs.declared.Field.the-variants as F
 use Rattle.stock_table.specs.declared.Row.{Row}
-use Rattle.stock_table.specs.Rows.{recordRow, messageRow, refusedRow, wordOf}
+use Rattle.stock_table.specs.declared.Origin.{Origin}
+use Rattle.stock_table.specs.declared.Stated.the-variants as S
+use Rattle.stock_table.specs.Rows.{originOf, unknown, rowOf, recordRow, wordOf}
 use Rattle.stock_table.specs.Columns.{columns, rowFields, headerLine, rowLine}
-use Rattle.stock_table.specs.Promises.{cutFrom, cutAtCommas, under, nameOf, SameColumns, UnderColumn, RecordColumns, RecordsInPlace, RefusalsInPlace, MessagesInPlace, Source, rowFor, RowsLoseNothing}
+use Rattle.stock_table.specs.Promises.{cutFrom, cutAtCommas, under, nameOf, SameColumns, UnderColumn, RecordColumns, RecordsInPlace, NoteColumns, NotesInPlace, Source, rowFor, RowsLoseNothing}
 
 -- ---- texts with no comma and no newline
 
@@ -192,10 +194,6 @@ records-in-place what line origin m o c accepted =
       inputOobAction = u 14 ∙ ap hexadecimalOf (pair-back m 10 (c .«input_oob_action») o (f 7));
     }
 
-pub refusals-in-place : RefusalsInPlace
-unfolding fieldText wordText
-refusals-in-place line origin n = let u = under-at (refusedRow line origin n) in (u 0, u 5)
-
 -- a message's word is its name
 word-name : (m : Message) → fieldText (wordOf m) ≡ ascii (nameOf (told m))
 unfolding fieldText wordText
@@ -211,9 +209,32 @@ word-name M.Complete = refl
 word-name (M.Failed code) = refl
 word-name (M.Refused r) = refl
 
-pub messages-in-place : MessagesInPlace
+-- a row that has no fields
+note-columns : (what : Word) (line : Field) (origin : Origin) (refusal message : Field)
+    → NoteColumns what (fieldText line) origin (fieldText refusal) (fieldText message) (rowLine (rowOf what line origin refusal message S.Nothing))
 unfolding fieldText wordText
-messages-in-place line origin m = let u = under-at (messageRow line origin m) in (u 0, u 6 ∙ word-name m)
+note-columns what line origin refusal message =
+    let row = rowOf what line origin refusal message S.Nothing in
+    let u = under-at row in
+    record {
+      whatIs = u 0;
+      lineIs = u 1;
+      socketIs = u 2;
+      idIs = u 3;
+      numberIs = u 4;
+      refusalIs = u 5;
+      messageIs = u 6;
+      noFields = ap (drop 7) (row-cut row);
+    }
+
+pub notes-in-place : NotesInPlace
+unfolding fieldText
+notes-in-place = record {
+  refusals = λ line origin n. note-columns W.Refused (F.Decimal line) origin (F.Decimal n) F.Empty;
+  messages = λ line origin m. rw (← (word-name m)) (note-columns W.Message (F.Decimal line) origin F.Empty (wordOf m));
+  sockets = λ what s. note-columns what F.Empty (originOf (F.Decimal (s .0)) F.Empty F.Empty) F.Empty F.Empty;
+  end = λ lines. note-columns W.End (F.Decimal lines) unknown F.Empty F.Empty;
+}
 
 -- ---- texts read back
 

@@ -1,4 +1,4 @@
--- The columns of the stock table: one list of names and fields, from which the header and every row are made.
+-- The columns of the stock table: one list of names and fields, from which the header and every row are made. Quotations are of `docs/IMPORT.md`.
 use Prim.Native.Nat.{ℕ}
 use Prim.Native.String.{String}
 use mathlib.Core.List.{List, [], _∷_, map}

@@ -1,24 +1,27 @@
 -- What is promised of the stock table, in the terms of who reads it: the header and a row cut at their commas. The proofs are `proofs/Promises.antt`.
+-- Quotations are of `docs/IMPORT.md`.
 use Prim.Native.Nat.{ℕ, zero, suc, _<_}
 use Prim.Native.String.{String}
 use mathlib.Core.Bool.{cond}
 use mathlib.Core.List.{List, [], _∷_, _++_, map}
 use mathlib.Core.Path.{_≡_}
 use lib.Dec.{eqb}
-use lib.ListN.{length, getD}
+use lib.ListN.{length, drop, getD, replicate}
 use Rattle.octets.specs.Numbers.{Octets}
 use Rattle.octets.specs.Parts.{same}
 use Rattle.octets.specs.Told.{Told, refused, answered}
+use Rattle.transactions.specs.declared.Socket.{Socket}
 use Rattle.provisioning.specs.Message.{messageRead, told}
 use Rattle.provisioning.specs.declared.Capabilities.{Capabilities}
 use Rattle.provisioning.specs.declared.Message.{Message}
 use Rattle.provisioning.specs.declared.Message.the-variants as M
 use Rattle.line_fields.specs.Lines.{ascii, decimalOf, hexadecimalOf, fieldText, wordText}
 use Rattle.line_fields.specs.declared.Word.{Word}
+use Rattle.line_fields.specs.declared.Word.the-variants as W
 use Rattle.line_fields.specs.declared.Field.the-variants as F
 use Rattle.stock_table.specs.declared.Origin.{Origin}
 use Rattle.stock_table.specs.declared.Row.{Row}
-use Rattle.stock_table.specs.Rows.{originOf, recordRow, messageRow, refusedRow}
+use Rattle.stock_table.specs.Rows.{originOf, unknown, recordRow, messageRow, refusedRow, socketRow, endRow}
 use Rattle.stock_table.specs.Columns.{columns, headerLine, rowLine}
 
 -- ---- a line cut at its commas
@@ -75,22 +78,29 @@ RecordsInPlace =
     (what : Word) (line : ℕ) (origin : Origin) (m : List ℕ) → Octets m → (c : Capabilities) → messageRead m ≡ M.Capabilities c
     → RecordColumns what line origin m (rowLine (recordRow what line origin c))
 
--- ---- the other rows of a line
+-- ---- the other rows: texts in the columns before the eight fields, and those empty
 
--- a refusal's number stands under `refusal`, and a message's name, as document 01 writes it, under `message`
+pub record NoteColumns (what : Word) (line : List ℕ) (origin : Origin) (refusal message row : List ℕ) : Type 0 where
+  pub whatIs : under "what" row ≡ wordText what
+  pub lineIs : under "line" row ≡ line
+  pub socketIs : under "socket" row ≡ fieldText (origin .socket)
+  pub idIs : under "link_id" row ≡ fieldText (origin .id)
+  pub numberIs : under "number" row ≡ fieldText (origin .number)
+  pub refusalIs : under "refusal" row ≡ refusal
+  pub messageIs : under "message" row ≡ message
+  pub noFields : drop 7 (cutAtCommas row) ≡ replicate 8 []
+
+-- "the name as document 01 writes it"
 abbrev pub nameOf : Told → String
 nameOf (refused n) = ""
 nameOf (answered name values) = name
 
-abbrev pub RefusalsInPlace : Type 0
-RefusalsInPlace =
-    (line : ℕ) (origin : Origin) (n : ℕ)
-    → (under "what" (rowLine (refusedRow line origin n)) ≡ ascii "refused") × (under "refusal" (rowLine (refusedRow line origin n)) ≡ decimalOf n)
-
-abbrev pub MessagesInPlace : Type 0
-MessagesInPlace =
-    (line : ℕ) (origin : Origin) (m : Message)
-    → (under "what" (rowLine (messageRow line origin m)) ≡ ascii "message") × (under "message" (rowLine (messageRow line origin m)) ≡ ascii (nameOf (told m)))
+pub record NotesInPlace : Type 0 where
+  pub refusals : (line : ℕ) (origin : Origin) (n : ℕ) → NoteColumns W.Refused (decimalOf line) origin (decimalOf n) [] (rowLine (refusedRow line origin n))
+  pub messages : (line : ℕ) (origin : Origin) (m : Message)
+      → NoteColumns W.Message (decimalOf line) origin [] (ascii (nameOf (told m))) (rowLine (messageRow line origin m))
+  pub sockets : (what : Word) (s : Socket) → NoteColumns what [] (originOf (F.Decimal (s .0)) F.Empty F.Empty) [] [] (rowLine (socketRow what s))
+  pub end : (lines : ℕ) → NoteColumns W.End (decimalOf lines) unknown [] [] (rowLine (endRow lines))
 
 -- ---- a row of a Capabilities message loses nothing of it
 

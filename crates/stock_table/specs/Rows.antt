@@ -1,4 +1,4 @@
--- The rows of the stock table, by what they say.
+-- The rows of the stock table, by what they say. Quotations are of `docs/IMPORT.md`.
 use Prim.Native.Nat.{ℕ}
 use Rattle.line_fields.specs.declared.Word.{Word}
 use Rattle.line_fields.specs.declared.Word.the-variants as W
