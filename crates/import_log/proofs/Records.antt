@@ -37,7 +37,8 @@ use Rattle.import_tray.specs.declared.Tray.{Tray}
 use Rattle.import_tray.specs.declared.Report.{Report}
 use Rattle.import_tray.specs.declared.Report.the-variants as R
 use Rattle.import_tray.specs.declared.Step.{Step}
-use Rattle.import_messages.specs.Messages.{sameFields, capabilitiesBy, messageStep}
+use Rattle.import_messages.specs.Messages.{readingOf, sameFields, capabilitiesBy, messageStep}
+use Rattle.import_messages.specs.declared.Reading.the-variants as G
 use Rattle.import_frames.specs.Origins.{frameOrigin}
 use Rattle.import_log.specs.Logs.{Import, reportIn, stepOf, after, afterAll, atFirst, numberIn}
 use Rattle.import_log.specs.Records.{messageOrigin, fieldsOf, isRecordWord, IsTrue, EveryRecord, OpenedBetween, OneRecord, MessageIsTrue, EveryMessage}
@@ -88,7 +89,7 @@ module _ (number : ℕ) (origin : Origin) where
   -- a row is of a Capabilities message, of another, or a refusal
   data Rowed (m : Message) (row : Row) : Type 0 where
     ofRecord : (c : Capabilities) → m ≡ M.Capabilities c → isRecordWord (row .what) ≡ true → row ≡ recordRow (row .what) number origin c → Rowed m row
-    ofOther : row ≡ messageRow number origin m → Rowed m row
+    ofOther : readingOf m ≡ G.Other → row ≡ messageRow number origin m → Rowed m row
     ofRefusal : row .what ≡ W.Refused → Rowed m row
 
   module _ (tray : Tray) (s : ℕ) where
@@ -99,20 +100,20 @@ module _ (number : ℕ) (origin : Origin) where
         cases (sameFields first c) (λ e. rw e (record { word = W.Repeated; isOne = refl; is = refl })) (λ e. rw e (record { word = W.Conflict; isOne = refl; is = refl }))
 
     rowed : (m : Message) (row : Row) → messageStep tray s number origin m .report ≡ R.Row row → Rowed m row
-    rowed (M.Invite attention) row e = ofOther cc
+    rowed (M.Invite attention) row e = ofOther refl cc
     rowed (M.Capabilities c) row e =
         let w = shows c (stockAt tray s) in
         let q : row ≡ recordRow (w .word) number origin c = cc in
         let what : row .what ≡ w .word = ap (λ (r : Row). r .what) q in
         ofRecord c refl (rw what (w .isOne)) (q ∙ ap (λ (u : Word). recordRow u number origin c) (sym what))
-    rowed (M.Start c) row e = ofOther cc
-    rowed (M.PublicKey x y) row e = ofOther cc
-    rowed M.InputComplete row e = ofOther cc
-    rowed (M.Confirmation c) row e = ofOther cc
-    rowed (M.Random r) row e = ofOther cc
-    rowed (M.Data d mic) row e = ofOther cc
-    rowed M.Complete row e = ofOther cc
-    rowed (M.Failed code) row e = ofOther cc
+    rowed (M.Start c) row e = ofOther refl cc
+    rowed (M.PublicKey x y) row e = ofOther refl cc
+    rowed M.InputComplete row e = ofOther refl cc
+    rowed (M.Confirmation c) row e = ofOther refl cc
+    rowed (M.Random r) row e = ofOther refl cc
+    rowed (M.Data d mic) row e = ofOther refl cc
+    rowed M.Complete row e = ofOther refl cc
+    rowed (M.Failed code) row e = ofOther refl cc
     rowed (M.Refused r) row e = let q : row ≡ refusedRow number origin (refusalNumber r) = cc in ofRefusal (ap (λ (x : Row). x .what) q)
 
 -- ---- what a line writes
@@ -157,15 +158,18 @@ module _ (before : List (List ℕ)) (line : List ℕ) (row : Row) where
               ∙ ap (recordRow (row .what) (numberIn m) (messageOrigin (c .socket) (c .id) (d .number))) (w .1);
         }
 
-    message-is-true : row ≡ messageRow (numberIn m) (frameOrigin (At (d .place)) (parsed (octetsOf line))) (readFrom m line d) → MessageIsTrue before line row
-    message-is-true q = record {
+    message-is-true : readingOf (readFrom m line d) ≡ G.Other → row ≡ messageRow (numberIn m) (frameOrigin (At (d .place)) (parsed (octetsOf line))) (readFrom m line d)
+        → MessageIsTrue before line row
+    message-is-true a q = record {
       socket = c .socket;
       id = c .id;
       number = d .number;
       octets = c .octets;
+      isHexadecimal = d .isHexadecimal;
       opened = c .opened;
       cut = c .cut;
       last = rw (c .frame) (in-cut (c .id) (d .number) (c .octets) (suc (segN (length (c .octets)))) (c .index) (omega (arith, c .inside)));
+      accepted = ap readingOf read ∙ a;
       shown = q ∙ ap (λ (o : Origin). messageRow (numberIn m) o (readFrom m line d)) origin
           ∙ ap (messageRow (numberIn m) (messageOrigin (c .socket) (c .id) (d .number))) (sym read);
     }
@@ -189,7 +193,7 @@ every-record before line row e w = of (written before line row e)
   where
     of : Written before line row → IsTrue before line row
     of (ofMessage d (ofRecord fields u v q)) = is-true before line row d fields u q
-    of (ofMessage d (ofOther q)) = absurd (false≢true (rw q at w))
+    of (ofMessage d (ofOther a q)) = absurd (false≢true (rw q at w))
     of (ofMessage d (ofRefusal q)) = absurd (false≢true (rw q at w))
     of (refusal q) = absurd (false≢true (rw q at w))
 
@@ -219,6 +223,6 @@ every-message before line row e w = of (written before line row e)
   where
     of : Written before line row → MessageIsTrue before line row
     of (ofMessage d (ofRecord fields u v q)) = absurd (false≢true (rw w at v))
-    of (ofMessage d (ofOther q)) = message-is-true before line row d q
+    of (ofMessage d (ofOther a q)) = message-is-true before line row d a q
     of (ofMessage d (ofRefusal q)) = let z : _≡_ {A = ℕ} 0 1 = cc in absurd (omega arith)
     of (refusal q) = let z : _≡_ {A = ℕ} 0 1 = cc in absurd (omega arith)

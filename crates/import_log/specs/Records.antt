@@ -24,6 +24,8 @@ use Rattle.stock_table.specs.Rows.{originOf, recordRow, messageRow}
 use Rattle.stock_table.specs.declared.Origin.{Origin}
 use Rattle.stock_table.specs.declared.Row.{Row}
 use Rattle.import_tray.specs.declared.Report.the-variants as R
+use Rattle.import_messages.specs.Messages.{readingOf}
+use Rattle.import_messages.specs.declared.Reading.the-variants as G
 use Rattle.import_lines.specs.Lines.{isFrame, isOpening, socketIn, idIn}
 use Rattle.import_log.specs.Logs.{Import, reportIn, afterAll, atFirst, numberIn}
 
@@ -142,15 +144,17 @@ pub record HeardIn (lines : List (List ℕ)) (f : List ℕ) : Type 0 where
   pub octets : octetsOf line ≡ f
 
 -- a `message` row is that of a message m that came by its cut: every frame of the cut was heard since the latest opening of the socket, in a line up to
--- this one
+-- this one, which is a frame of it; and the reader accepts m, as no Capabilities message
 pub record MessageIsTrue (before : List (List ℕ)) (line : List ℕ) (row : Row) : Type 0 where
   pub socket : Socket
   pub id : ℕ
   pub number : TransactionNumber
   pub octets : List ℕ
+  pub isHexadecimal : isFrame line ≡ true
   pub opened : LatestOpening before socket id
   pub cut : (f : List ℕ) → List·Memᴰ f (messageFrames id number octets) → HeardIn (opened .since ++ (line ∷ [])) f
   pub last : List·Memᴰ (octetsOf line) (messageFrames id number octets)
+  pub accepted : readingOf (messageRead octets) ≡ G.Other
   pub shown : row ≡ messageRow (numberIn (afterAll atFirst before)) (messageOrigin socket id number) (messageRead octets)
 
 abbrev pub EveryMessage : Type 0
