@@ -109,7 +109,7 @@ opening-form line e =
     let d = both-hold {a = leb (getD line 0 0) 56} (b .1) in
     (eqb-true (length line) 10 (a .0), leb-true 49 (getD line 0 0) (b .0), leb-true (getD line 0 0) 56 (d .0), eqb-true (getD line 1 0) 32 (d .1))
 
-opening-no-frame : (line : List ℕ) → isOpening line ≡ true → isFrame line ≡ false
+pub opening-no-frame : (line : List ℕ) → isOpening line ≡ true → isFrame line ≡ false
 unfolding valueOf
 opening-no-frame line e =
     let w = opening-form line e in
@@ -119,7 +119,7 @@ opening-no-frame line e =
     absurd (omega arith))
     (λ f. f)
 
-opening-unmarked : (line : List ℕ) → isOpening line ≡ true → isMarkedSent line ≡ false
+pub opening-unmarked : (line : List ℕ) → isOpening line ≡ true → isMarkedSent line ≡ false
 opening-unmarked line e = let w = opening-form line e in ne-eqb (getD line 0 0) 62 (omega (arith, w .2))
 
 pub opening-socket : (line : List ℕ) → isOpening line ≡ true → isSocket (socketIn line) 8 ≡ true

@@ -3,16 +3,19 @@ use Prim.Native.Nat.{ℕ, suc, _+_, _*_, _≤_, _<_}
 use native.Mathlib.Omega.{arith}
 use mathlib.Core.Bool.{true, false≢true}
 use mathlib.Core.List.{List, [], _∷_, _++_}
-use mathlib.Core.Logic.{_⊎_, inl, inr}
-use mathlib.Core.Path.{_≡_, refl, sym, ap, _∙_}
+use mathlib.Core.Logic.{_≢_, _↔_}
+use mathlib.Core.Path.{_≡_, refl, sym, ap, _∙_, subst}
+use lib.Dec.{eqb}
 use lib.ListN.{length, getD}
 use lib.Seq.{getD-take}
+use borrow.Author.Tests.{eqb-true, eq-eqb}
 use Rattle.octets.specs.Cut.{piece, upTo}
 use Rattle.octets.specs.Parts.{part}
-use Rattle.octets.proofs.Tests.{cases}
+use Rattle.octets.proofs.Tests.{cases, both-hold}
 use Rattle.hex.specs.Hex.{octetsOf}
 use Rattle.transactions.specs.Numbers.{socketPlace}
 use Rattle.transactions.specs.Segments.{segN}
+use Rattle.transactions.specs.declared.Socket.{Socket}
 use Rattle.transactions.specs.declared.TransactionNumber.{TransactionNumber}
 use Rattle.pb_adv.specs.Frame.{parsed, segmentOctets}
 use Rattle.pb_adv_writing.specs.Writing.{headerOf, segmentFrame, messageFrames}
@@ -20,32 +23,31 @@ use Rattle.links.specs.Station.{received}
 use Rattle.links.specs.declared.Side.the-variants.{Provisioner}
 use Rattle.links.specs.declared.Found.the-variants.{At}
 use Rattle.links.proofs.Frames.{in-cut}
-use Rattle.provisioning.specs.Message.{messageRead, refusalNumber, told}
+use Rattle.provisioning.specs.Message.{messageRead, told}
 use Rattle.provisioning.specs.declared.Capabilities.{Capabilities}
-use Rattle.provisioning.specs.declared.Message.{Message}
 use Rattle.provisioning.specs.declared.Message.the-variants as M
 use Rattle.provisioning.proofs.Promises.{capabilities-in-place}
 use Rattle.line_fields.specs.declared.Word.{Word}
 use Rattle.line_fields.specs.declared.Word.the-variants as W
-use Rattle.stock_table.specs.Rows.{recordRow, messageRow, refusedRow}
+use Rattle.line_fields.specs.declared.Field.the-variants as F
+use Rattle.stock_table.specs.Rows.{recordRow, messageRow}
 use Rattle.stock_table.specs.declared.Origin.{Origin}
+use Rattle.stock_table.specs.declared.Stated.the-variants as T
 use Rattle.stock_table.specs.declared.Row.{Row}
-use Rattle.import_tray.specs.Trays.{stockAt}
-use Rattle.import_tray.specs.declared.Stock.{Stock}
+use Rattle.import_tray.specs.Trays.{stockAt, rowAfter}
 use Rattle.import_tray.specs.declared.Stock.the-variants as K
-use Rattle.import_tray.specs.declared.Tray.{Tray}
-use Rattle.import_tray.specs.declared.Report.{Report}
 use Rattle.import_tray.specs.declared.Report.the-variants as R
+use Rattle.import_tray.specs.declared.Tray.{Tray}
 use Rattle.import_tray.specs.declared.Step.{Step}
-use Rattle.import_messages.specs.Messages.{readingOf, sameFields, capabilitiesBy, messageStep}
+use Rattle.import_messages.specs.Messages.{readingOf, sameFields, furtherWord}
 use Rattle.import_messages.specs.declared.Reading.the-variants as G
 use Rattle.import_frames.specs.Origins.{frameOrigin}
 use Rattle.import_log.specs.Logs.{Import, reportIn, stepOf, after, afterAll, atFirst, numberIn}
-use Rattle.import_log.specs.Records.{messageOrigin, fieldsOf, isRecordWord, IsTrue, EveryRecord, OpenedBetween, OneRecord, MessageIsTrue, EveryMessage}
+use Rattle.import_log.specs.Records.{LatestOpening, messageOrigin, fieldsOf, IsTrue, EveryRecord, RecordsAt, OpenedBetween, OneRecord, RecordedSince, FurtherIsTrue, EveryFurther, MessageIsTrue, EveryMessage}
 use Rattle.import_log.proofs.Operations.{stationIn, after-lines}
-use Rattle.import_log.proofs.Rows.{Delivered, readFrom, Says, quiet, opens, tells, says}
+use Rattle.import_log.proofs.Rows.{row-is, Delivered, readFrom, Says, quiet, opens, tells, says, isRecorded, records, compares, shows, refuses, BecomesOf, becomes-of}
 use Rattle.import_log.proofs.Came.{Came, came}
-use Rattle.import_log.proofs.Stock.{hasRecord, OpenedIn, recorded-lines, Fresh, fresh}
+use Rattle.import_log.proofs.Stock.{stockIn, origin-socket, opened-empty, StockAfterAll, unchanged, openedIn, recordedIn, stock-after-all, further-other, Fresh, fresh}
 
 -- ---- a Capabilities message
 
@@ -77,45 +79,6 @@ module _ (id : ℕ) (t : TransactionNumber) (m : List ℕ) (long : length m ≡ 
       let q : 9 + i ≡ suc (suc (suc (suc (suc (suc (suc (suc (suc i)))))))) = omega arith in
       rw (q, long) (sym (getD-take 12 m i 0 h))
 
--- ---- the rows of a message that was delivered
-
-module _ (number : ℕ) (origin : Origin) where
-  -- a row of a Capabilities message
-  record Shows (c : Capabilities) (report : Report) : Type 0 where
-    word : Word
-    isOne : isRecordWord word ≡ true
-    is : report ≡ R.Row (recordRow word number origin c)
-
-  -- a row is of a Capabilities message, of another, or a refusal
-  data Rowed (m : Message) (row : Row) : Type 0 where
-    ofRecord : (c : Capabilities) → m ≡ M.Capabilities c → isRecordWord (row .what) ≡ true → row ≡ recordRow (row .what) number origin c → Rowed m row
-    ofOther : readingOf m ≡ G.Other → row ≡ messageRow number origin m → Rowed m row
-    ofRefusal : row .what ≡ W.Refused → Rowed m row
-
-  module _ (tray : Tray) (s : ℕ) where
-    shows : (c : Capabilities) (k : Stock) → Shows c (capabilitiesBy k tray s number origin c .report)
-    shows c K.Unopened = record { word = W.Record; isOne = refl; is = refl }
-    shows c K.Missing = record { word = W.Record; isOne = refl; is = refl }
-    shows c (K.Recorded first) =
-        cases (sameFields first c) (λ e. rw e (record { word = W.Repeated; isOne = refl; is = refl })) (λ e. rw e (record { word = W.Conflict; isOne = refl; is = refl }))
-
-    rowed : (m : Message) (row : Row) → messageStep tray s number origin m .report ≡ R.Row row → Rowed m row
-    rowed (M.Invite attention) row e = ofOther refl cc
-    rowed (M.Capabilities c) row e =
-        let w = shows c (stockAt tray s) in
-        let q : row ≡ recordRow (w .word) number origin c = cc in
-        let what : row .what ≡ w .word = ap (λ (r : Row). r .what) q in
-        ofRecord c refl (rw what (w .isOne)) (q ∙ ap (λ (u : Word). recordRow u number origin c) (sym what))
-    rowed (M.Start c) row e = ofOther refl cc
-    rowed (M.PublicKey x y) row e = ofOther refl cc
-    rowed M.InputComplete row e = ofOther refl cc
-    rowed (M.Confirmation c) row e = ofOther refl cc
-    rowed (M.Random r) row e = ofOther refl cc
-    rowed (M.Data d mic) row e = ofOther refl cc
-    rowed M.Complete row e = ofOther refl cc
-    rowed (M.Failed code) row e = ofOther refl cc
-    rowed (M.Refused r) row e = let q : row ≡ refusedRow number origin (refusalNumber r) = cc in ofRefusal (ap (λ (x : Row). x .what) q)
-
 -- ---- what a line writes
 
 module _ (before : List (List ℕ)) (line : List ℕ) (row : Row) where
@@ -136,9 +99,10 @@ module _ (before : List (List ℕ)) (line : List ℕ) (row : Row) where
     origin : frameOrigin (At (d .place)) (parsed (octetsOf line)) ≡ messageOrigin (c .socket) (c .id) (d .number)
     origin = ap (λ (i : ℕ). frameOrigin (At i) (parsed (octetsOf line))) place ∙ c .origin
 
-    is-true : (fields : Capabilities) → readFrom m line d ≡ M.Capabilities fields
-        → row ≡ recordRow (row .what) (numberIn m) (frameOrigin (At (d .place)) (parsed (octetsOf line))) fields → IsTrue before line row
-    is-true fields e q =
+    is-true : (word : Word) (fields : Capabilities) → readFrom m line d ≡ M.Capabilities fields
+        → row ≡ recordRow word (numberIn m) (frameOrigin (At (d .place)) (parsed (octetsOf line))) fields → IsTrue before line row
+    is-true word fields e q =
+        let what : word ≡ row .what = sym (ap (λ (r : Row). r .what) q) in
         let w = capabilities-read (c .octets) fields (read ∙ e) in
         let first : c .index ≡ 0 = let b : c .index ≤ segN 12 = rw (w .0) at (c .inside) in omega arith in
         let frame : octetsOf line ≡ segmentFrame (c .id) (d .number) (c .octets) 0 = c .frame ∙ ap (segmentFrame (c .id) (d .number) (c .octets)) first in
@@ -154,12 +118,11 @@ module _ (before : List (List ℕ)) (line : List ℕ) (row : Row) where
           accepted = read ∙ e ∙ ap M.Capabilities (w .1);
           long = w .0;
           places = λ i h. rw frame (behind-header (c .id) (d .number) (c .octets) (w .0) i h);
-          shown = q ∙ ap (λ (o : Origin). recordRow (row .what) (numberIn m) o fields) origin
-              ∙ ap (recordRow (row .what) (numberIn m) (messageOrigin (c .socket) (c .id) (d .number))) (w .1);
+          shown = q ∙ λ i. recordRow (what i) (numberIn m) (origin i) (w .1 i);
         }
 
-    message-is-true : readingOf (readFrom m line d) ≡ G.Other → row ≡ messageRow (numberIn m) (frameOrigin (At (d .place)) (parsed (octetsOf line))) (readFrom m line d)
-        → MessageIsTrue before line row
+    message-is-true : readingOf (readFrom m line d) ≡ G.Other
+        → row ≡ messageRow (numberIn m) (frameOrigin (At (d .place)) (parsed (octetsOf line))) (readFrom m line d) → MessageIsTrue before line row
     message-is-true a q = record {
       socket = c .socket;
       id = c .id;
@@ -176,33 +139,46 @@ module _ (before : List (List ℕ)) (line : List ℕ) (row : Row) where
 
   -- a row that a line writes: of a message that it delivers, or a refusal
   data Written : Type 0 where
-    ofMessage : (d : Delivered m line) → Rowed (numberIn m) (frameOrigin (At (d .place)) (parsed (octetsOf line))) (readFrom m line d) row → Written
+    recorded : (d : Delivered m line) (c : Capabilities) → readFrom m line d ≡ M.Capabilities c
+        → row ≡ recordRow W.Record (numberIn m) (frameOrigin (At (d .place)) (parsed (octetsOf line))) c → Written
+    compared : (d : Delivered m line) (c first : Capabilities) → readFrom m line d ≡ M.Capabilities c → stockAt (m .log .tray) (d .place) ≡ K.Recorded first
+        → row ≡ recordRow (furtherWord first c) (numberIn m) (frameOrigin (At (d .place)) (parsed (octetsOf line))) c → Written
+    shown : (d : Delivered m line) → readingOf (readFrom m line d) ≡ G.Other
+        → row ≡ messageRow (numberIn m) (frameOrigin (At (d .place)) (parsed (octetsOf line))) (readFrom m line d) → Written
     refusal : row .what ≡ W.Refused → Written
 
   written : reportIn m line ≡ R.Row row → Written
   written e = of (says m line)
     where
+      is : {tray : Tray} {other : Row} → stepOf (m .log) (m .area) line ≡ rowAfter tray other → row ≡ other
+      is {tray} {other} q = row-is row other (sym e ∙ ap (λ (x : Step). x .report) q)
+
+      of-message : (d : Delivered m line) → BecomesOf m line d (stepOf (m .log) (m .area) line) → Written
+      of-message d (records c u g q) = recorded d c u (is q)
+      of-message d (compares c first u g q) = compared d c first u g (is q)
+      of-message d (shows u q) = shown d u (is q)
+      of-message d (refuses n q) = refusal (ap (λ (x : Row). x .what) (is q))
+
       of : Says m line (stepOf (m .log) (m .area) line) → Written
       of (quiet r) = refusal (rw e at (r .refuses))
-      of (opens s id w r q) = let z : _≡_ {A = ℕ} 0 1 = cc in absurd (omega arith)
-      of (tells d q) = ofMessage d (rowed _ _ _ (d .place) (readFrom m line d) row (sym (ap (λ (x : Step). x .report) q) ∙ e))
+      of (opens s id w q) = let r = sym e ∙ ap (λ (x : Step). x .report) q in let z : _≡_ {A = ℕ} 0 1 = cc in absurd (omega arith)
+      of (tells d q) = of-message d (becomes-of m line d q)
 
 -- EVERY RECORD IS TRUE
 pub every-record : EveryRecord
 every-record before line row e w = of (written before line row e)
   where
     of : Written before line row → IsTrue before line row
-    of (ofMessage d (ofRecord fields u v q)) = is-true before line row d fields u q
-    of (ofMessage d (ofOther a q)) = absurd (false≢true (rw q at w))
-    of (ofMessage d (ofRefusal q)) = absurd (false≢true (rw q at w))
+    of (recorded d c u q) = is-true before line row d W.Record c u q
+    of (compared d c first u g q) = is-true before line row d (furtherWord first c) c u q
+    of (shown d u q) = absurd (false≢true (rw q at w))
     of (refusal q) = absurd (false≢true (rw q at w))
 
 -- ONE RECORD FOR AN OPENING
 pub one-record : OneRecord
 one-record before first between second s a b =
     let x = fresh before first s a in
-    let y = fresh (before ++ (first ∷ between)) second s b in
-    of y (recorded-lines (after (afterAll atFirst before) first) between s (x .some) (x .now))
+    of x (fresh (before ++ (first ∷ between)) second s b) (stock-after-all m between s (x .some))
   where
     m : Import
     m = after (afterAll atFirst before) first
@@ -210,19 +186,119 @@ one-record before first between second s a b =
     here : (lines : List (List ℕ)) → afterAll atFirst ((before ++ (first ∷ [])) ++ lines) ≡ afterAll m lines
     here lines = after-lines atFirst (before ++ (first ∷ [])) lines ∙ ap (λ (n : Import). afterAll n lines) (after-lines atFirst before (first ∷ []))
 
-    of : Fresh (afterAll atFirst (before ++ (first ∷ between))) second s
-        → (hasRecord (afterAll m between .log .tray .stock) (socketPlace s) ≡ true) ⊎ OpenedIn m between s → OpenedBetween (before ++ (first ∷ [])) between s
-    of y (inl k) =
+    of : Fresh (afterAll atFirst before) first s → Fresh (afterAll atFirst (before ++ (first ∷ between))) second s → StockAfterAll m between s
+        → OpenedBetween (before ++ (first ∷ [])) between s
+    of x y (unchanged k) =
         let e : afterAll atFirst (before ++ (first ∷ between)) ≡ afterAll m between = after-lines atFirst before (first ∷ between) in
-        absurd (false≢true (sym (y .was) ∙ ap (λ (n : Import). hasRecord (n .log .tray .stock) (socketPlace s)) e ∙ k))
-    of y (inr k) = record { front = k .front; opening = k .opening; rest = k .rest; id = k .id; split = k .split; opens = rw (here (k .front)) (k .opens) }
+        absurd (false≢true (sym (y .was) ∙ ap (λ (n : Import). isRecorded (stockIn n s)) e ∙ ap isRecorded k ∙ x .now))
+    of x y (openedIn k) = record { front = k .front; opening = k .opening; rest = k .rest; id = k .id; split = k .split; opens = rw (here (k .front)) (k .opens) }
+    of x y (recordedIn c was now k) = absurd (false≢true (sym was ∙ x .now))
+
+-- ---- a further message
+
+-- the record since the latest opening
+module _ (lines : List (List ℕ)) (s : Socket) (id : ℕ) (o : LatestOpening lines s id) (some : 1 ≤ s .0) (c : Capabilities)
+    (has : stockIn (afterAll atFirst lines) s ≡ K.Recorded c) where
+  -- behind the opening
+  abbrev behind : Import
+  behind = after (afterAll atFirst (o .before)) (o .opening)
+
+  here : (front : List (List ℕ)) → afterAll atFirst (o .before ++ (o .opening ∷ front)) ≡ afterAll behind front
+  here front = after-lines atFirst (o .before) (o .opening ∷ front)
+
+  now : stockIn (afterAll behind (o .since)) s ≡ K.Recorded c
+  now = subst (λ (n : Import). stockIn n s ≡ K.Recorded c) (ap (afterAll atFirst) (o .split) ∙ here (o .since)) has
+
+  recorded-since : RecordedSince o c
+  recorded-since = of (stock-after-all behind (o .since) s some)
+    where
+      of : StockAfterAll behind (o .since) s → RecordedSince o c
+      of (unchanged e) = absurd (false≢true (sym (opened-empty (afterAll atFirst (o .before)) (o .opening) s id (o .opens)) ∙ ap isRecorded (sym e ∙ now)))
+      of (openedIn k) = absurd (o .latest (k .front) (k .opening) (k .rest) (k .split) (k .id) (rw (here (k .front)) (k .opens)))
+      of (recordedIn d was is k) =
+          let same : d ≡ c = let e = sym is ∙ now in cc in
+          let w : (r : RecordsAt (afterAll atFirst (o .before ++ (o .opening ∷ k .front))) (k .line) s) × (r .row .stated ≡ T.Fields c) =
+          rw (here (k .front)) (k .records, k .stated ∙ ap T.Fields same) in
+          record { between = k .front; line = k .line; rest = k .rest; split = k .split; records = w .0; stated = w .1 }
+
+-- "the same eight fields" are the same
+module _ (a b : Capabilities) where
+  same-fields : sameFields a b ≡ true → a ≡ b
+  unfolding sameFields
+  same-fields e =
+      let e1 = both-hold {a = eqb (a .elements) (b .elements)} e in
+      let e2 = both-hold {a = eqb (a .algorithms) (b .algorithms)} (e1 .1) in
+      let e3 = both-hold {a = eqb (a .«public_key_type») (b .«public_key_type»)} (e2 .1) in
+      let e4 = both-hold {a = eqb (a .«static_oob_type») (b .«static_oob_type»)} (e3 .1) in
+      let e5 = both-hold {a = eqb (a .«output_oob_size») (b .«output_oob_size»)} (e4 .1) in
+      let e6 = both-hold {a = eqb (a .«output_oob_action») (b .«output_oob_action»)} (e5 .1) in
+      let e7 = both-hold {a = eqb (a .«input_oob_size») (b .«input_oob_size»)} (e6 .1) in
+      λ i. record {
+        elements = eqb-true (a .elements) (b .elements) (e1 .0) i;
+        algorithms = eqb-true (a .algorithms) (b .algorithms) (e2 .0) i;
+        «public_key_type» = eqb-true (a .«public_key_type») (b .«public_key_type») (e3 .0) i;
+        «static_oob_type» = eqb-true (a .«static_oob_type») (b .«static_oob_type») (e4 .0) i;
+        «output_oob_size» = eqb-true (a .«output_oob_size») (b .«output_oob_size») (e5 .0) i;
+        «output_oob_action» = eqb-true (a .«output_oob_action») (b .«output_oob_action») (e6 .0) i;
+        «input_oob_size» = eqb-true (a .«input_oob_size») (b .«input_oob_size») (e7 .0) i;
+        «input_oob_action» = eqb-true (a .«input_oob_action») (b .«input_oob_action») (e7 .1) i;
+      }
+
+fields-same : (a : Capabilities) → sameFields a a ≡ true
+unfolding sameFields
+fields-same a =
+    rw (eq-eqb (a .elements) _ refl, eq-eqb (a .algorithms) _ refl, eq-eqb (a .«public_key_type») _ refl, eq-eqb (a .«static_oob_type») _ refl, eq-eqb (a .«output_oob_size») _ refl, eq-eqb (a .«output_oob_action») _ refl, eq-eqb (a .«input_oob_size») _ refl, eq-eqb (a .«input_oob_action») _ refl)
+
+-- what a word tells of fields behind a record's
+abbrev Tells : Word → Capabilities → Capabilities → Type 0
+Tells word first c = ((word ≡ W.Repeated) ↔ (c ≡ first)) × ((word ≡ W.Conflict) ↔ (c ≢ first))
+
+further-tells : (first c : Capabilities) → Tells (furtherWord first c) first c
+further-tells first c =
+    cases (sameFields first c)
+    (λ g. let q : c ≡ first = sym (same-fields first c g) in
+    rw g ((λ e. q, λ e. refl), (λ e. let z : _≡_ {A = ℕ} 0 1 = cc in absurd (omega arith), λ h. absurd (h q))))
+    (λ g. let h : c ≢ first = λ q. false≢true (sym g ∙ ap (sameFields first) q ∙ fields-same first) in
+    rw g ((λ e. let z : _≡_ {A = ℕ} 0 1 = cc in absurd (omega arith), λ q. absurd (h q)), (λ e. h, λ e. refl)))
+
+fields-are : (a b : Capabilities) → T.Fields a ≡ T.Fields b → a ≡ b
+fields-are a b e = cc
+
+decimal-is : (a b : ℕ) → F.Decimal a ≡ F.Decimal b → a ≡ b
+decimal-is a b e = cc
+
+-- EVERY FURTHER ROW IS TRUE
+pub every-further : EveryFurther
+every-further before line row e w other = of (every-record before line row e w) (written before line row e)
+  where
+    of : IsTrue before line row → Written before line row → FurtherIsTrue before line row
+    of t (recorded d c u q) = absurd (other (ap (λ (r : Row). r .what) q))
+    of t (compared d c first u g q) =
+        let what : furtherWord first c ≡ row .what = sym (ap (λ (r : Row). r .what) q) in
+        let fields : c ≡ fieldsOf (t .octets) = fields-are c _ (ap (λ (r : Row). r .stated) (sym q ∙ t .shown)) in
+        let from : F.Decimal (t .socket .0) ≡ F.Decimal (d .place + 1) =
+        ap (λ (r : Row). r .origin .socket) (sym (t .shown) ∙ q)
+        ∙ origin-socket (afterAll atFirst before .log .tray .links) (d .place) (parsed (octetsOf line)) (d .isFor) in
+        let number : t .socket .0 ≡ d .place + 1 = decimal-is _ _ from in
+        let place : d .place ≡ socketPlace (t .socket) = omega arith in
+        let tells = subst (λ (x : Capabilities). Tells (row .what) first x) fields (subst (λ (u : Word). Tells u first c) what (further-tells first c)) in
+        record {
+          isTrue = t;
+          fields = first;
+          recorded = recorded-since before (t .socket) (t .id) (t .opened) (omega arith) first (rw (← place) g);
+          repeated = tells .0;
+          conflict = tells .1;
+        }
+    of t (shown d u q) = absurd (false≢true (rw q at w))
+    of t (refusal q) = absurd (false≢true (rw q at w))
 
 -- EVERY MESSAGE ROW IS TRUE
 pub every-message : EveryMessage
 every-message before line row e w = of (written before line row e)
   where
     of : Written before line row → MessageIsTrue before line row
-    of (ofMessage d (ofRecord fields u v q)) = absurd (false≢true (rw w at v))
-    of (ofMessage d (ofOther a q)) = message-is-true before line row d a q
-    of (ofMessage d (ofRefusal q)) = let z : _≡_ {A = ℕ} 0 1 = cc in absurd (omega arith)
+    of (recorded d c u q) = let what = sym (ap (λ (r : Row). r .what) q) ∙ w in let z : _≡_ {A = ℕ} 0 1 = cc in absurd (omega arith)
+    of (compared d c first u g q) =
+        absurd (further-other first c W.Message (λ q. let z : _≡_ {A = ℕ} 0 1 = cc in omega arith) (λ q. let z : _≡_ {A = ℕ} 0 1 = cc in omega arith) (sym (ap (λ (r : Row). r .what) q) ∙ w))
+    of (shown d u q) = message-is-true before line row d u q
     of (refusal q) = let z : _≡_ {A = ℕ} 0 1 = cc in absurd (omega arith)

@@ -1,18 +1,19 @@
 -- What a line writes: nothing, a refusal, or what becomes of a message that its frame delivers; and what it does to the stock.
 use Prim.Native.Nat.{ℕ, _*_}
-use mathlib.Core.Bool.{true, false}
+use mathlib.Core.Bool.{Bool, true, false}
 use mathlib.Core.List.{List, [], _∷_}
-use mathlib.Core.Path.{_≡_, refl, ap, _∙_}
-use lib.ListN.{length, drop, set, length-set}
+use mathlib.Core.Path.{_≡_, refl, sym, ap, _∙_}
+use lib.ListN.{length, drop, length-set}
 use Rattle.octets.specs.Parts.{part}
+use Rattle.octets.proofs.Tables.{other-told}
 use Rattle.octets.proofs.Tests.{cases}
 use Rattle.hex.specs.Hex.{octetsOf}
-use Rattle.transactions.specs.Numbers.{socketPlace}
+use Rattle.transactions.specs.Numbers.{isSocket, socketPlace}
 use Rattle.transactions.specs.declared.Socket.{Socket}
 use Rattle.transactions.specs.declared.TransactionNumber.{TransactionNumber}
 use Rattle.pb_adv.specs.Frame.{parsed}
 use Rattle.links.specs.Links.{blankWith, find, refusalNumber, told}
-use Rattle.links.specs.Station.{Station, isFound, received, localOpen, localSend, localClose}
+use Rattle.links.specs.Station.{Station, isFound, withLink, received, localOpen, localSend, localClose}
 use Rattle.links.specs.Promises.{addressed}
 use Rattle.links.specs.declared.Side.the-variants.{Provisioner}
 use Rattle.links.specs.declared.LinkState.the-variants as L
@@ -25,9 +26,12 @@ use Rattle.links.proofs.Local.{Calls, refusal, written, open-calls}
 use Rattle.provisioning.specs.Message.{messageRead}
 use Rattle.provisioning.specs.declared.Capabilities.{Capabilities}
 use Rattle.provisioning.specs.declared.Message.{Message}
+use Rattle.provisioning.specs.declared.Message.the-variants as M
 use Rattle.line_fields.specs.declared.Word.the-variants as W
+use Rattle.stock_table.specs.Rows.{recordRow, messageRow, refusedRow}
 use Rattle.stock_table.specs.declared.Origin.{Origin}
-use Rattle.import_tray.specs.Trays.{stockOf, withLinks, stockAt, nothingAfter}
+use Rattle.stock_table.specs.declared.Row.{Row}
+use Rattle.import_tray.specs.Trays.{withLinks, stockAt, withStock, rowAfter, nothingAfter}
 use Rattle.import_tray.specs.declared.SocketStock.{SocketStock}
 use Rattle.import_tray.specs.declared.Stock.{Stock}
 use Rattle.import_tray.specs.declared.Stock.the-variants as K
@@ -35,8 +39,7 @@ use Rattle.import_tray.specs.declared.Tray.{Tray}
 use Rattle.import_tray.specs.declared.Report.{Report}
 use Rattle.import_tray.specs.declared.Report.the-variants as R
 use Rattle.import_tray.specs.declared.Step.{Step}
-use Rattle.import_messages.specs.Messages.{readingOf, capabilitiesBy, messageBy, messageStep}
-use Rattle.import_messages.specs.declared.Reading.{Reading}
+use Rattle.import_messages.specs.Messages.{readingOf, furtherWord, capabilitiesBy, messageStep}
 use Rattle.import_messages.specs.declared.Reading.the-variants as G
 use Rattle.import_frames.specs.Origins.{outcomeOf, frameOrigin}
 use Rattle.import_frames.specs.Heard.{nextOf, isRepeat, refusedReport, deliveredStep, heardBy, heardStep}
@@ -48,7 +51,7 @@ use Rattle.import_frames.specs.declared.Asked.the-variants as Q
 use Rattle.import_lines.specs.Lines.{isFrame, isMarkedSent, isOpening, isPassed, socketIn, idIn, openedBy, openedStep, plainStep, otherStep, sentLine, unheardStep, lineStep}
 use Rattle.import_log.specs.Logs.{Import, stepOf, after, afterAll, numberIn}
 use Rattle.import_log.specs.Records.{Opens}
-use Rattle.import_log.proofs.Operations.{stationIn}
+use Rattle.import_log.proofs.Operations.{stationIn, opening-no-frame, opening-unmarked}
 
 -- ---- reports
 
@@ -56,6 +59,10 @@ use Rattle.import_log.proofs.Operations.{stationIn}
 abbrev pub Refuses : Report → Type 0
 Refuses R.Nothing = Unit {0}
 Refuses (R.Row row) = row .what ≡ W.Refused
+
+-- a report has one row
+pub row-is : (a b : Row) → R.Row a ≡ R.Row b → a ≡ b
+row-is a b e = cc
 
 -- no more than that, and the stock stays
 pub record Quiet (stock : List SocketStock) (step : Step) : Type 0 where
@@ -80,10 +87,15 @@ stepFrom m line d =
     messageStep (withLinks (m .log .tray) (received Provisioner (stationIn m) (octetsOf line) .1 .links)) (d .place) (numberIn m)
     (frameOrigin (At (d .place)) (parsed (octetsOf line))) (readFrom m line d)
 
+-- the tray behind an opening
+abbrev pub openedTray : Import → Socket → ℕ → Tray
+openedTray m s id =
+    withStock (withLinks (m .log .tray) (withLink (m .log .tray .links) s (blankWith Provisioner L.Opening id))) (socketPlace s) K.Missing
+
 -- a line is quiet, opens a socket, or delivers a message
 pub data Says (m : Import) (line : List ℕ) (step : Step) : Type 0 where
   quiet : Quiet (m .log .tray .stock) step → Says m line step
-  opens : (s : Socket) (id : ℕ) → Opens m line s id → step .report ≡ R.Nothing → step .tray .stock ≡ set (m .log .tray .stock) (socketPlace s) (stockOf K.Missing) → Says m line step
+  opens : (s : Socket) (id : ℕ) → Opens m line s id → step ≡ nothingAfter (openedTray m s id) → Says m line step
   tells : (d : Delivered m line) → step ≡ stepFrom m line d → Says m line step
 
 module _ (m : Import) (line : List ℕ) where
@@ -172,7 +184,7 @@ module _ (m : Import) (line : List ℕ) where
       of (refusal q e) = rw e (quiet (record { refuses = refl; same = refl }))
       of (written r g u e) =
           let w : Opens m line s id = record { form = form; socket = refl; linkId = refl; done = ap (λ (x : Answer × List Link). told (x .0)) e } in
-          rw e (opens s id w refl refl)
+          rw e (opens s id w refl)
 
   -- ---- any line
 
@@ -188,37 +200,79 @@ module _ (m : Import) (line : List ℕ) where
   unfolding lineStep
   says = cases (isFrame line) (λ e. rw e (heard-says e)) (λ e. rw e unheard-says)
 
--- ---- the stock
+  -- where it opens a socket
+  pub opened : (s : Socket) (id : ℕ) → Opens m line s id
+      → (isSocket s (length (tray .links)) ≡ true) × (stepOf (m .log) (m .area) line ≡ nothingAfter (openedTray m s id))
+  unfolding lineStep unheardStep otherStep openedStep
+  opened s id o = of (open-calls Provisioner (tray .links) s id)
+    where
+      step : stepOf (m .log) (m .area) line ≡ openedStep tray number s id
+      step = rw (opening-no-frame line (o .form), opening-unmarked line (o .form), o .form) (rw (o .socket, o .linkId))
 
--- a message leaves the stock, or records its fields at its place
-pub data Restocks (old : List SocketStock) (s : ℕ) (new : List SocketStock) : Type 0 where
-  stays : new ≡ old → Restocks old s new
-  records : (c : Capabilities) → new ≡ set old s (stockOf (K.Recorded c)) → Restocks old s new
+      of : Calls Provisioner (tray .links) s (isFound (find (tray .links) id) ≡ false) A.Done (blankWith Provisioner L.Opening id) (localOpen Provisioner (tray .links) s id)
+          → (isSocket s (length (tray .links)) ≡ true) × (stepOf (m .log) (m .area) line ≡ nothingAfter (openedTray m s id))
+      of (refusal q e) = other-told _ _ refl (sym (ap (λ (x : Answer × List Link). told (x .0)) e) ∙ o .done)
+      of (written r g u e) = (r, step ∙ rw e)
 
-pub restocks : (tray : Tray) (s number : ℕ) (origin : Origin) (message : Message) → Restocks (tray .stock) s (messageStep tray s number origin message .tray .stock)
-restocks tray s number origin message = by (readingOf message)
-  where
-    by-stock : (c : Capabilities) (k : Stock) → Restocks (tray .stock) s (capabilitiesBy k tray s number origin c .tray .stock)
-    by-stock c K.Unopened = records c refl
-    by-stock c K.Missing = records c refl
-    by-stock c (K.Recorded first) = stays refl
+-- ---- a message that was delivered
 
-    by : (r : Reading) → Restocks (tray .stock) s (messageBy r tray s number origin message .tray .stock)
-    by (G.Record c) = by-stock c (stockAt tray s)
-    by (G.Refused n) = stays refl
-    by G.Other = stays refl
+abbrev pub isRecorded : Stock → Bool
+isRecorded K.Unopened = false
+isRecorded K.Missing = false
+isRecorded (K.Recorded c) = true
+
+module _ (tray : Tray) (s number : ℕ) (origin : Origin) where
+  -- it is recorded, compared with the record, shown or refused
+  pub data Becomes (message : Message) (step : Step) : Type 0 where
+    records : (c : Capabilities) → message ≡ M.Capabilities c → isRecorded (stockAt tray s) ≡ false
+        → step ≡ rowAfter (withStock tray s (K.Recorded c)) (recordRow W.Record number origin c) → Becomes message step
+    compares : (c first : Capabilities) → message ≡ M.Capabilities c → stockAt tray s ≡ K.Recorded first
+        → step ≡ rowAfter tray (recordRow (furtherWord first c) number origin c) → Becomes message step
+    shows : readingOf message ≡ G.Other → step ≡ rowAfter tray (messageRow number origin message) → Becomes message step
+    refuses : (n : ℕ) → step ≡ rowAfter tray (refusedRow number origin n) → Becomes message step
+
+  pub becomes : (message : Message) → Becomes message (messageStep tray s number origin message)
+  becomes (M.Invite attention) = shows refl refl
+  becomes (M.Capabilities c) = by (stockAt tray s) refl
+    where
+      by : (k : Stock) → stockAt tray s ≡ k → Becomes (M.Capabilities c) (capabilitiesBy k tray s number origin c)
+      by K.Unopened e = records c refl (rw e) refl
+      by K.Missing e = records c refl (rw e) refl
+      by (K.Recorded first) e = compares c first refl e refl
+  becomes (M.Start c) = shows refl refl
+  becomes (M.PublicKey x y) = shows refl refl
+  becomes M.InputComplete = shows refl refl
+  becomes (M.Confirmation c) = shows refl refl
+  becomes (M.Random r) = shows refl refl
+  becomes (M.Data d mic) = shows refl refl
+  becomes M.Complete = shows refl refl
+  becomes (M.Failed code) = shows refl refl
+  becomes (M.Refused r) = refuses _ refl
+
+-- and that of a line
+abbrev pub BecomesOf : (m : Import) (line : List ℕ) → Delivered m line → Step → Type 0
+BecomesOf m line d step =
+    Becomes (withLinks (m .log .tray) (received Provisioner (stationIn m) (octetsOf line) .1 .links)) (d .place) (numberIn m)
+    (frameOrigin (At (d .place)) (parsed (octetsOf line))) (readFrom m line d) step
+
+pub becomes-of : (m : Import) (line : List ℕ) (d : Delivered m line) {step : Step} → step ≡ stepFrom m line d → BecomesOf m line d step
+becomes-of m line d e = rw e (becomes _ (d .place) _ _ (readFrom m line d))
+
+-- ---- how many sockets the stock has
 
 pub stock-count : (m : Import) (line : List ℕ) → length (after m line .log .tray .stock) ≡ length (m .log .tray .stock)
 stock-count m line = of (says m line)
   where
-    of-message : {s : ℕ} {new : List SocketStock} → Restocks (m .log .tray .stock) s new → length new ≡ length (m .log .tray .stock)
-    of-message (stays e) = ap length e
-    of-message {s} (records c e) = ap length e ∙ length-set (m .log .tray .stock) s _
+    of-message : {step : Step} (d : Delivered m line) → BecomesOf m line d step → length (step .tray .stock) ≡ length (m .log .tray .stock)
+    of-message d (records c u g e) = ap (λ (x : Step). length (x .tray .stock)) e ∙ length-set (m .log .tray .stock) (d .place) _
+    of-message d (compares c first u g e) = ap (λ (x : Step). length (x .tray .stock)) e
+    of-message d (shows u e) = ap (λ (x : Step). length (x .tray .stock)) e
+    of-message d (refuses n e) = ap (λ (x : Step). length (x .tray .stock)) e
 
     of : {step : Step} → Says m line step → length (step .tray .stock) ≡ length (m .log .tray .stock)
     of (quiet q) = ap length (q .same)
-    of (opens s id w r e) = ap length e ∙ length-set (m .log .tray .stock) (socketPlace s) _
-    of (tells d q) = ap (λ (x : Step). length (x .tray .stock)) q ∙ of-message (restocks _ (d .place) _ _ (readFrom m line d))
+    of (opens s id w e) = ap (λ (x : Step). length (x .tray .stock)) e ∙ length-set (m .log .tray .stock) (socketPlace s) _
+    of (tells d q) = of-message d (becomes-of m line d q)
 
 pub stock-counts : (m : Import) (lines : List (List ℕ)) → length (afterAll m lines .log .tray .stock) ≡ length (m .log .tray .stock)
 stock-counts m [] = refl

@@ -1,9 +1,9 @@
--- The stock of a socket: once it is recorded it stays so until the socket is opened, and a `record` row finds it not so.
-use Prim.Native.Nat.{ℕ, _+_, _≤_, _<_}
+-- The stock of a socket: what a line does to it, and lines; and that a `record` row finds nothing recorded.
+use Prim.Native.Nat.{ℕ, zero, suc, _+_, _≤_, _<_}
 use native.Mathlib.Omega.{arith}
-use mathlib.Core.Bool.{Bool, true, false}
+use mathlib.Core.Bool.{true, false, false≢true}
 use mathlib.Core.List.{List, [], _∷_, _++_}
-use mathlib.Core.Logic.{_≢_, _⊎_, inl, inr}
+use mathlib.Core.Logic.{_≢_}
 use mathlib.Core.Path.{_≡_, refl, sym, ap, _∙_, subst}
 use lib.Dec.{eqb, leb}
 use lib.ListN.{length, getD, set}
@@ -20,72 +20,106 @@ use Rattle.links.specs.Promises.{addressed}
 use Rattle.links.specs.declared.Link.{Link}
 use Rattle.links.specs.declared.Found.the-variants.{At}
 use Rattle.provisioning.specs.declared.Capabilities.{Capabilities}
-use Rattle.provisioning.specs.declared.Message.{Message}
-use Rattle.provisioning.specs.declared.Message.the-variants as M
+use Rattle.line_fields.specs.declared.Word.{Word}
 use Rattle.line_fields.specs.declared.Word.the-variants as W
 use Rattle.line_fields.specs.declared.Field.the-variants as F
-use Rattle.stock_table.specs.Rows.{recordRow}
-use Rattle.stock_table.specs.declared.Origin.{Origin}
+use Rattle.stock_table.specs.declared.Stated.the-variants as T
 use Rattle.stock_table.specs.declared.Row.{Row}
-use Rattle.import_tray.specs.Trays.{stockOf, stockAt}
+use Rattle.import_tray.specs.Trays.{stockOf, stockAt, rowAfter}
 use Rattle.import_tray.specs.declared.SocketStock.{SocketStock}
 use Rattle.import_tray.specs.declared.Stock.{Stock}
 use Rattle.import_tray.specs.declared.Stock.the-variants as K
 use Rattle.import_tray.specs.declared.Tray.{Tray}
-use Rattle.import_tray.specs.declared.Report.the-variants as R
 use Rattle.import_tray.specs.declared.Step.{Step}
-use Rattle.import_messages.specs.Messages.{sameFields, furtherWord, capabilitiesBy, messageStep}
+use Rattle.import_messages.specs.Messages.{sameFields, furtherWord}
 use Rattle.import_frames.specs.Origins.{frameOrigin}
-use Rattle.import_log.specs.Logs.{Import, stepOf, after, afterAll, atFirst}
+use Rattle.import_log.specs.Logs.{Import, stepOf, after, afterAll, atFirst, numberIn}
 use Rattle.import_log.specs.Records.{Opens, RecordsAt}
 use Rattle.import_log.proofs.Operations.{stationIn, frame-octets, opening-socket, right}
 use Rattle.import_log.proofs.Deliveries.{delivers}
-use Rattle.import_log.proofs.Rows.{Delivered, readFrom, stepFrom, Says, quiet, opens, tells, says, Restocks, stays, records, restocks, stock-counts}
+use Rattle.import_log.proofs.Rows.{row-is, Delivered, Says, quiet, opens, tells, says, opened as opened-step, isRecorded, records, compares, shows, refuses, BecomesOf, becomes-of, stock-counts}
 
-abbrev pub isRecorded : Stock → Bool
-isRecorded K.Unopened = false
-isRecorded K.Missing = false
-isRecorded (K.Recorded c) = true
+abbrev pub stockIn : Import → Socket → Stock
+stockIn m s = stockAt (m .log .tray) (socketPlace s)
 
--- of the place p of a stock
-abbrev pub hasRecord : List SocketStock → ℕ → Bool
-hasRecord stock p = isRecorded (getD stock p (stockOf K.Unopened) .stock)
+same-socket : (s t : Socket) → 1 ≤ s .0 → 1 ≤ t .0 → socketPlace s ≡ socketPlace t → s ≡ t
+same-socket s t a b e = let q : s .0 ≡ t .0 = omega arith in λ i. record { 0 = q i }
 
--- ---- what is recorded stays so
+-- the socket that a row of a message shows
+pub origin-socket : (ls : List Link) (s : ℕ) (p : Parsed) → addressed ls p ≡ At s → frameOrigin (At s) p .socket ≡ F.Decimal (s + 1)
+origin-socket ls s (P.Segment g) e = refl
+origin-socket ls s (P.Acknowledgement id t) e = refl
+origin-socket ls s (P.Open id uuid) e = refl
+origin-socket ls s (P.Ack id) e = refl
+origin-socket ls s (P.Close id reason) e = refl
+origin-socket ls s (P.Refused r) e = let z : _≡_ {A = ℕ} 0 1 = cc in absurd (omega arith)
 
-recorded-set : (l : List SocketStock) (s p : ℕ) (c : Capabilities) → hasRecord l p ≡ true → hasRecord (set l s (stockOf (K.Recorded c))) p ≡ true
-recorded-set l s p c h =
-    cases (eqb s p)
-    (λ e. rw (← (eqb-true s p e)) (cases (leb (length l) s)
-    (λ b. rw (set-out l s (stockOf (K.Recorded c)) (leb-true (length l) s b), eqb-true s p e) h)
-    (λ b. rw (getD-set-same l s (stockOf (K.Recorded c)) (stockOf K.Unopened) (leb-false (length l) s b)))))
-    (λ e. rw (getD-set-other l s p (stockOf (K.Recorded c)) (stockOf K.Unopened) (λ q. eqb-false s p e (sym q))) h)
+-- ---- a line
 
--- an opening of the socket of place p
-record OpensAt (m : Import) (line : List ℕ) (p : ℕ) : Type 0 where
-  socket : Socket
-  id : ℕ
-  opening : Opens m line socket id
-  place : socketPlace socket ≡ p
+-- it leaves what the table has of a socket, opens the socket, or delivers the message that becomes its record
+pub data StockAfter (m : Import) (line : List ℕ) (s : Socket) (new : Stock) : Type 0 where
+  same : new ≡ stockIn m s → StockAfter m line s new
+  opened : (id : ℕ) → Opens m line s id → StockAfter m line s new
+  recorded : (c : Capabilities) → isRecorded (stockIn m s) ≡ false → new ≡ K.Recorded c → (d : Delivered m line) → d .place ≡ socketPlace s
+      → (r : RecordsAt m line s) → r .row .stated ≡ T.Fields c → StockAfter m line s new
 
-recorded-after : (m : Import) (line : List ℕ) (p : ℕ) → hasRecord (m .log .tray .stock) p ≡ true
-    → (hasRecord (after m line .log .tray .stock) p ≡ true) ⊎ OpensAt m line p
-recorded-after m line p h = of (says m line)
+pub stock-after : (m : Import) (line : List ℕ) (s : Socket) → 1 ≤ s .0 → StockAfter m line s (stockIn (after m line) s)
+stock-after m line s some = of (says m line)
   where
     old : List SocketStock
     old = m .log .tray .stock
 
-    of-message : {s : ℕ} {new : List SocketStock} → Restocks old s new → hasRecord new p ≡ true
-    of-message (stays e) = rw e h
-    of-message {s} (records c e) = rw e (recorded-set old s p c h)
+    p : ℕ
+    p = socketPlace s
 
-    of : {step : Step} → Says m line step → (hasRecord (step .tray .stock) p ≡ true) ⊎ OpensAt m line p
-    of (quiet q) = inl (rw (q .same) h)
-    of (opens s id w r e) =
-        cases (eqb (socketPlace s) p)
-        (λ g. inr (record { socket = s; id = id; opening = w; place = eqb-true (socketPlace s) p g }))
-        (λ g. inl (rw (e, getD-set-other old (socketPlace s) p (stockOf K.Missing) (stockOf K.Unopened) (λ z. eqb-false (socketPlace s) p g (sym z))) h))
-    of (tells d q) = inl (rw q (of-message (restocks _ (d .place) _ _ (readFrom m line d))))
+    new : {stock : List SocketStock} → after m line .log .tray .stock ≡ stock → stockIn (after m line) s ≡ getD stock p (stockOf K.Unopened) .stock
+    new e = ap (λ (l : List SocketStock). getD l p (stockOf K.Unopened) .stock) e
+
+    of-message : (d : Delivered m line) → BecomesOf m line d (stepOf (m .log) (m .area) line) → StockAfter m line s (stockIn (after m line) s)
+    of-message d (records c u g e) =
+        let j = d .place in
+        let stock = ap (λ (x : Step). x .tray .stock) e in
+        cases (eqb j p)
+        (λ h. let q : j ≡ p = eqb-true j p h in
+        cases (leb (length old) j)
+        (λ b. same (new (stock ∙ set-out old j (stockOf (K.Recorded c)) (leb-true (length old) j b))))
+        (λ b. recorded c (rw (← q) g)
+        (new stock ∙ rw (← q) (ap (λ (k : SocketStock). k .stock) (getD-set-same old j (stockOf (K.Recorded c)) (stockOf K.Unopened) (leb-false (length old) j b))))
+        d q
+        (record {
+          row = _;
+          writes = ap (λ (x : Step). x .report) e;
+          isRecord = refl;
+          socket = origin-socket (m .log .tray .links) j (parsed (octetsOf line)) (d .isFor) ∙ ap F.Decimal (omega arith);
+        })
+        refl))
+        (λ h. same (new stock ∙ ap (λ (k : SocketStock). k .stock) (getD-set-other old j p (stockOf (K.Recorded c)) (stockOf K.Unopened) (λ z. eqb-false j p h (sym z)))))
+    of-message d (compares c first u g e) = same (new (ap (λ (x : Step). x .tray .stock) e))
+    of-message d (shows u e) = same (new (ap (λ (x : Step). x .tray .stock) e))
+    of-message d (refuses n e) = same (new (ap (λ (x : Step). x .tray .stock) e))
+
+    of : Says m line (stepOf (m .log) (m .area) line) → StockAfter m line s (stockIn (after m line) s)
+    of (quiet q) = same (new (q .same))
+    of (opens t id w e) =
+        let n : isSocket t 8 ≡ true = subst (λ (u : Socket). isSocket u 8 ≡ true) (w .socket) (opening-socket line (w .form)) in
+        cases (eqb (socketPlace t) p)
+        (λ g. opened id (subst (λ (u : Socket). Opens m line u id)
+        (same-socket t s (leb-true 1 (t .0) (both-hold {a = leb 1 (t .0)} n .0)) some (eqb-true (socketPlace t) p g)) w))
+        (λ g. same (new (ap (λ (x : Step). x .tray .stock) e)
+        ∙ ap (λ (k : SocketStock). k .stock) (getD-set-other old (socketPlace t) p (stockOf K.Missing) (stockOf K.Unopened) (λ z. eqb-false (socketPlace t) p g (sym z)))))
+    of (tells d q) = of-message d (becomes-of m line d q)
+
+-- nothing is recorded behind an opening
+missing-at : (l : List SocketStock) (i : ℕ) → isRecorded (getD (set l i (stockOf K.Missing)) i (stockOf K.Unopened) .stock) ≡ false
+missing-at [] i = refl
+missing-at (x ∷ l) zero = refl
+missing-at (x ∷ l) (suc i) = missing-at l i
+
+pub opened-empty : (m : Import) (line : List ℕ) (s : Socket) (id : ℕ) → Opens m line s id → isRecorded (stockIn (after m line) s) ≡ false
+opened-empty m line s id o =
+    ap (λ (x : Step). isRecorded (stockAt (x .tray) (socketPlace s))) (opened-step m line s id o .1) ∙ missing-at (m .log .tray .stock) (socketPlace s)
+
+-- ---- lines
 
 -- an opening of a socket among lines
 pub record OpenedIn (m : Import) (lines : List (List ℕ)) (s : Socket) : Type 0 where
@@ -96,96 +130,49 @@ pub record OpenedIn (m : Import) (lines : List (List ℕ)) (s : Socket) : Type 0
   pub split : lines ≡ front ++ (opening ∷ rest)
   pub opens : Opens (afterAll m front) opening s id
 
-same-socket : (s t : Socket) → 1 ≤ s .0 → 1 ≤ t .0 → socketPlace s ≡ socketPlace t → s ≡ t
-same-socket s t a b e = let q : s .0 ≡ t .0 = omega arith in λ i. record { 0 = q i }
+-- a record of a socket among lines
+pub record RecordedIn (m : Import) (lines : List (List ℕ)) (s : Socket) (c : Capabilities) : Type 0 where
+  pub front : List (List ℕ)
+  pub line : List ℕ
+  pub rest : List (List ℕ)
+  pub split : lines ≡ front ++ (line ∷ rest)
+  pub records : RecordsAt (afterAll m front) line s
+  pub stated : records .row .stated ≡ T.Fields c
 
-pub recorded-lines : (m : Import) (lines : List (List ℕ)) (s : Socket) → 1 ≤ s .0 → hasRecord (m .log .tray .stock) (socketPlace s) ≡ true
-    → (hasRecord (afterAll m lines .log .tray .stock) (socketPlace s) ≡ true) ⊎ OpenedIn m lines s
-recorded-lines m [] s some h = inl h
-recorded-lines m (line ∷ lines) s some h = of (recorded-after m line (socketPlace s) h) (recorded-lines (after m line) lines s some)
+-- lines leave what the table has of a socket, open the socket, or record it where nothing was recorded
+pub data StockAfterAll (m : Import) (lines : List (List ℕ)) (s : Socket) : Type 0 where
+  unchanged : stockIn (afterAll m lines) s ≡ stockIn m s → StockAfterAll m lines s
+  openedIn : OpenedIn m lines s → StockAfterAll m lines s
+  recordedIn : (c : Capabilities) → isRecorded (stockIn m s) ≡ false → stockIn (afterAll m lines) s ≡ K.Recorded c → RecordedIn m lines s c → StockAfterAll m lines s
+
+pub stock-after-all : (m : Import) (lines : List (List ℕ)) (s : Socket) → 1 ≤ s .0 → StockAfterAll m lines s
+stock-after-all m [] s some = unchanged refl
+stock-after-all m (line ∷ lines) s some = of (stock-after m line s some) (stock-after-all (after m line) lines s some)
   where
-    further : (hasRecord (afterAll m (line ∷ lines) .log .tray .stock) (socketPlace s) ≡ true) ⊎ OpenedIn (after m line) lines s
-        → (hasRecord (afterAll m (line ∷ lines) .log .tray .stock) (socketPlace s) ≡ true) ⊎ OpenedIn m (line ∷ lines) s
-    further (inl k) = inl k
-    further (inr k) =
-        inr (record { front = line ∷ k .front; opening = k .opening; rest = k .rest; id = k .id; split = ap (λ (l : List (List ℕ)). line ∷ l) (k .split); opens = k .opens })
+    later : OpenedIn (after m line) lines s → OpenedIn m (line ∷ lines) s
+    later k = record { front = line ∷ k .front; opening = k .opening; rest = k .rest; id = k .id; split = ap (λ (l : List (List ℕ)). line ∷ l) (k .split); opens = k .opens }
 
-    of : (hasRecord (after m line .log .tray .stock) (socketPlace s) ≡ true) ⊎ OpensAt m line (socketPlace s)
-        → (hasRecord (after m line .log .tray .stock) (socketPlace s) ≡ true
-        → (hasRecord (afterAll m (line ∷ lines) .log .tray .stock) (socketPlace s) ≡ true) ⊎ OpenedIn (after m line) lines s)
-        → (hasRecord (afterAll m (line ∷ lines) .log .tray .stock) (socketPlace s) ≡ true) ⊎ OpenedIn m (line ∷ lines) s
-    of (inl k) r = further (r k)
-    of (inr k) r =
-        let n : isSocket (k .socket) 8 ≡ true = subst (λ (t : Socket). isSocket t 8 ≡ true) (k .opening .socket) (opening-socket line (k .opening .form)) in
-        let same = same-socket (k .socket) s (leb-true 1 (k .socket .0) (both-hold {a = leb 1 (k .socket .0)} n .0)) some (k .place) in
-        inr (record { front = []; opening = line; rest = lines; id = k .id; split = refl; opens = rw (← same) (k .opening) })
+    of : StockAfter m line s (stockIn (after m line) s) → StockAfterAll (after m line) lines s → StockAfterAll m (line ∷ lines) s
+    of (opened id w) r = openedIn (record { front = []; opening = line; rest = lines; id = id; split = refl; opens = w })
+    of (same e) (unchanged g) = unchanged (g ∙ e)
+    of (same e) (openedIn k) = openedIn (later k)
+    of (same e) (recordedIn c was now k) =
+        recordedIn c (rw (← e) was) now
+        (record { front = line ∷ k .front; line = k .line; rest = k .rest; split = ap (λ (l : List (List ℕ)). line ∷ l) (k .split); records = k .records; stated = k .stated })
+    of (recorded c was now d at k q) (unchanged g) = recordedIn c was (g ∙ now) (record { front = []; line = line; rest = lines; split = refl; records = k; stated = q })
+    of (recorded c was now d at k q) (openedIn l) = openedIn (later l)
+    of (recorded c was now d at k q) (recordedIn c′ was′ now′ k′) = absurd (false≢true (sym was′ ∙ ap isRecorded now))
 
 -- ---- a `record` row
 
--- is written where nothing is recorded, and records
-record Records (old new : List SocketStock) (s : ℕ) (origin : Origin) (row : Row) : Type 0 where
-  was : hasRecord old s ≡ false
-  fields : Capabilities
-  now : new ≡ set old s (stockOf (K.Recorded fields))
-  from : row .origin ≡ origin
-
-further-word : (first c : Capabilities) → furtherWord first c ≢ W.Record
-further-word first c e =
-    cases (sameFields first c)
-    (λ g. let q : W.Repeated ≡ W.Record = rw g at e in let z : _≡_ {A = ℕ} 0 1 = cc in absurd (omega arith))
-    (λ g. let q : W.Conflict ≡ W.Record = rw g at e in let z : _≡_ {A = ℕ} 0 1 = cc in absurd (omega arith))
-
-other-word : W.Message ≢ W.Record
-other-word e = let z : _≡_ {A = ℕ} 0 1 = cc in omega arith
-
-refused-word : W.Refused ≢ W.Record
-refused-word e = let z : _≡_ {A = ℕ} 0 1 = cc in omega arith
-
-module _ (tray : Tray) (s number : ℕ) (origin : Origin) (row : Row) (isRecord : row .what ≡ W.Record) where
-  by-stock : (c : Capabilities) (k : Stock) → stockAt tray s ≡ k → capabilitiesBy k tray s number origin c .report ≡ R.Row row
-      → Records (tray .stock) (capabilitiesBy k tray s number origin c .tray .stock) s origin row
-  by-stock c K.Unopened e q =
-      let r : row ≡ recordRow W.Record number origin c = cc in
-      record { was = rw e; fields = c; now = refl; from = ap (λ (x : Row). x .origin) r }
-  by-stock c K.Missing e q =
-      let r : row ≡ recordRow W.Record number origin c = cc in
-      record { was = rw e; fields = c; now = refl; from = ap (λ (x : Row). x .origin) r }
-  by-stock c (K.Recorded first) e q =
-      let r : row ≡ recordRow (furtherWord first c) number origin c = cc in
-      let what : furtherWord first c ≡ W.Record = sym (ap (λ (x : Row). x .what) r) ∙ isRecord in
-      absurd (further-word first c what)
-
-  no-record : {B : Type 0} (other : Row) → R.Row other ≡ R.Row row → other .what ≢ W.Record → B
-  no-record other e h = let r : other ≡ row = cc in absurd (h (ap (λ (x : Row). x .what) r ∙ isRecord))
-
-  by-message : (m : Message) → messageStep tray s number origin m .report ≡ R.Row row
-      → Records (tray .stock) (messageStep tray s number origin m .tray .stock) s origin row
-  by-message (M.Invite attention) e = no-record _ e other-word
-  by-message (M.Capabilities c) e = by-stock c (stockAt tray s) refl e
-  by-message (M.Start c) e = no-record _ e other-word
-  by-message (M.PublicKey x y) e = no-record _ e other-word
-  by-message M.InputComplete e = no-record _ e other-word
-  by-message (M.Confirmation c) e = no-record _ e other-word
-  by-message (M.Random r) e = no-record _ e other-word
-  by-message (M.Data d mic) e = no-record _ e other-word
-  by-message M.Complete e = no-record _ e other-word
-  by-message (M.Failed code) e = no-record _ e other-word
-  by-message (M.Refused r) e = no-record _ e refused-word
-
--- the socket that a row of a message shows
-origin-socket : (ls : List Link) (s : ℕ) (p : Parsed) → addressed ls p ≡ At s → frameOrigin (At s) p .socket ≡ F.Decimal (s + 1)
-origin-socket ls s (P.Segment g) e = refl
-origin-socket ls s (P.Acknowledgement id t) e = refl
-origin-socket ls s (P.Open id uuid) e = refl
-origin-socket ls s (P.Ack id) e = refl
-origin-socket ls s (P.Close id reason) e = refl
-origin-socket ls s (P.Refused r) e = let z : _≡_ {A = ℕ} 0 1 = cc in absurd (omega arith)
+pub further-other : (first c : Capabilities) (word : Word) → W.Repeated ≢ word → W.Conflict ≢ word → furtherWord first c ≢ word
+further-other first c word a b e = cases (sameFields first c) (λ g. absurd (a (rw g at e))) (λ g. absurd (b (rw g at e)))
 
 -- a line that writes the record of a socket: nothing was recorded, and now it is
 pub record Fresh (m : Import) (line : List ℕ) (s : Socket) : Type 0 where
   pub some : 1 ≤ s .0
-  pub was : hasRecord (m .log .tray .stock) (socketPlace s) ≡ false
-  pub now : hasRecord (after m line .log .tray .stock) (socketPlace s) ≡ true
+  pub was : isRecorded (stockIn m s) ≡ false
+  pub now : isRecorded (stockIn (after m line) s) ≡ true
 
 pub fresh : (before : List (List ℕ)) (line : List ℕ) (s : Socket) → RecordsAt (afterAll atFirst before) line s → Fresh (afterAll atFirst before) line s
 fresh before line s r = of (says m line)
@@ -196,26 +183,41 @@ fresh before line s r = of (says m line)
     old : List SocketStock
     old = m .log .tray .stock
 
-    of-message : (d : Delivered m line) → stepOf (m .log) (m .area) line ≡ stepFrom m line d → Fresh m line s
-    of-message d q =
+    is : {tray : Tray} {row : Row} → stepOf (m .log) (m .area) line ≡ rowAfter tray row → r .row ≡ row
+    is {tray} {row} e = row-is (r .row) row (sym (r .writes) ∙ ap (λ (x : Step). x .report) e)
+
+    what : {row : Row} → r .row ≡ row → row .what ≡ W.Record
+    what e = sym (ap (λ (x : Row). x .what) e) ∙ r .isRecord
+
+    of-message : (d : Delivered m line) → BecomesOf m line d (stepOf (m .log) (m .area) line) → Fresh m line s
+    of-message d (records c u g e) =
         let j = d .place in
-        let w = by-message _ j _ _ (r .row) (r .isRecord) (readFrom m line d) (sym (ap (λ (x : Step). x .report) q) ∙ r .writes) in
-        let decimal : F.Decimal (s .0) ≡ F.Decimal (j + 1) = sym (r .socket) ∙ ap (λ (o : Origin). o .socket) (w .from) ∙ origin-socket (m .log .tray .links) j (parsed (octetsOf line)) (d .isFor) in
+        let decimal : F.Decimal (s .0) ≡ F.Decimal (j + 1) = sym (r .socket) ∙ ap (λ (x : Row). x .origin .socket) (is e) ∙ origin-socket (m .log .tray .links) j (parsed (octetsOf line)) (d .isFor) in
         let number : s .0 ≡ j + 1 = cc in
         let place : j ≡ socketPlace s = omega arith in
         let below = delivers (stationIn m) (octetsOf line) (frame-octets line (d .isHexadecimal)) j (d .long) (d .number) (d .isFor) (d .answer) .below in
         let inside : j < length old = omega (arith, below, right before .count, stock-counts atFirst before) in
-        let stock : after m line .log .tray .stock ≡ set old j (stockOf (K.Recorded (w .fields))) = ap (λ (x : Step). x .tray .stock) q ∙ w .now in
         record {
           some = omega arith;
-          was = rw (← place) (w .was);
-          now = rw (← place, stock, getD-set-same old j (stockOf (K.Recorded (w .fields))) (stockOf K.Unopened) inside);
+          was = rw (← place) g;
+          now = ap (λ (x : Step). isRecorded (stockAt (x .tray) (socketPlace s))) e
+              ∙ rw (← place) (ap (λ (k : SocketStock). isRecorded (k .stock)) (getD-set-same old j (stockOf (K.Recorded c)) (stockOf K.Unopened) inside));
         }
+    of-message d (compares c first u g e) =
+        absurd (further-other first c W.Record (λ q. let z : _≡_ {A = ℕ} 0 1 = cc in omega arith) (λ q. let z : _≡_ {A = ℕ} 0 1 = cc in omega arith) (what (is e)))
+    of-message d (shows u e) =
+        let w : W.Message ≡ W.Record = what (is e) in
+        let z : _≡_ {A = ℕ} 0 1 = cc in absurd (omega arith)
+    of-message d (refuses n e) =
+        let w : W.Refused ≡ W.Record = what (is e) in
+        let z : _≡_ {A = ℕ} 0 1 = cc in absurd (omega arith)
 
     of : Says m line (stepOf (m .log) (m .area) line) → Fresh m line s
     of (quiet q) =
         let e : r .row .what ≡ W.Refused = rw (r .writes) at (q .refuses) in
         let e′ = r .isRecord in
         let z : _≡_ {A = ℕ} 0 1 = cc in absurd (omega arith)
-    of (opens t id w e g) = let e′ = r .writes in let z : _≡_ {A = ℕ} 0 1 = cc in absurd (omega arith)
-    of (tells d q) = of-message d q
+    of (opens t id w e) =
+        let row = sym (r .writes) ∙ ap (λ (x : Step). x .report) e in
+        let z : _≡_ {A = ℕ} 0 1 = cc in absurd (omega arith)
+    of (tells d q) = of-message d (becomes-of m line d q)

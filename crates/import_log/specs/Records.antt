@@ -3,6 +3,7 @@
 use Prim.Native.Nat.{ℕ, _+_, _<_}
 use mathlib.Core.Bool.{Bool, true, false}
 use mathlib.Core.List.{List, [], _∷_, _++_, List·Memᴰ}
+use mathlib.Core.Logic.{_≢_, _↔_}
 use mathlib.Core.Path.{_≡_}
 use lib.ListN.{length, getD}
 use Rattle.octets.specs.Numbers.{big16}
@@ -22,6 +23,7 @@ use Rattle.line_fields.specs.declared.Word.the-variants as W
 use Rattle.line_fields.specs.declared.Field.the-variants as F
 use Rattle.stock_table.specs.Rows.{originOf, recordRow, messageRow}
 use Rattle.stock_table.specs.declared.Origin.{Origin}
+use Rattle.stock_table.specs.declared.Stated.the-variants as T
 use Rattle.stock_table.specs.declared.Row.{Row}
 use Rattle.import_tray.specs.declared.Report.the-variants as R
 use Rattle.import_messages.specs.Messages.{readingOf}
@@ -133,6 +135,30 @@ OneRecord =
     (before : List (List ℕ)) (first : List ℕ) (between : List (List ℕ)) (second : List ℕ) (s : Socket)
     → RecordsAt (afterAll atFirst before) first s → RecordsAt (afterAll atFirst (before ++ (first ∷ between))) second s
     → OpenedBetween (before ++ (first ∷ [])) between s
+
+-- ---- further messages: `repeated` and `conflict`
+
+-- a line since an opening wrote the record of its socket, with fields c
+pub record RecordedSince {lines : List (List ℕ)} {s : Socket} {id : ℕ} (o : LatestOpening lines s id) (c : Capabilities) : Type 0 where
+  pub between : List (List ℕ)
+  pub line : List ℕ
+  pub rest : List (List ℕ)
+  pub split : o .since ≡ between ++ (line ∷ rest)
+  pub records : RecordsAt (afterAll atFirst (o .before ++ (o .opening ∷ between))) line s
+  pub stated : records .row .stated ≡ T.Fields c
+
+-- such a row comes behind the record since the latest opening of its socket: `repeated` if its fields are those of the record, `conflict` if they are not
+pub record FurtherIsTrue (before : List (List ℕ)) (line : List ℕ) (row : Row) : Type 0 where
+  pub isTrue : IsTrue before line row
+  pub fields : Capabilities
+  pub recorded : RecordedSince (isTrue .opened) fields
+  pub repeated : (row .what ≡ W.Repeated) ↔ (fieldsOf (isTrue .octets) ≡ fields)
+  pub conflict : (row .what ≡ W.Conflict) ↔ (fieldsOf (isTrue .octets) ≢ fields)
+
+abbrev pub EveryFurther : Type 0
+EveryFurther =
+    (before : List (List ℕ)) (line : List ℕ) (row : Row) → reportIn (afterAll atFirst before) line ≡ R.Row row → isRecordWord (row .what) ≡ true
+    → row .what ≢ W.Record → FurtherIsTrue before line row
 
 -- ---- the rows of other messages
 
