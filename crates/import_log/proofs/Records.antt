@@ -43,11 +43,11 @@ use Rattle.import_messages.specs.Messages.{readingOf, sameFields, furtherWord}
 use Rattle.import_messages.specs.declared.Reading.the-variants as G
 use Rattle.import_frames.specs.Origins.{frameOrigin}
 use Rattle.import_log.specs.Logs.{Import, reportIn, stepOf, after, afterAll, atFirst, numberIn}
-use Rattle.import_log.specs.Records.{LatestOpening, messageOrigin, fieldsOf, IsTrue, EveryRecord, RecordsAt, OpenedBetween, OneRecord, RecordedSince, FurtherIsTrue, EveryFurther, MessageIsTrue, EveryMessage}
+use Rattle.import_log.specs.Records.{LatestOpening, messageOrigin, fieldsOf, isRecordWord, IsTrue, EveryRecord, RecordsAt, OpenedBetween, OneRecord, RecordedSince, FurtherIsTrue, EveryFurther, MessageIsTrue, EveryMessage}
 use Rattle.import_log.proofs.Operations.{stationIn, after-lines}
 use Rattle.import_log.proofs.Rows.{row-is, Delivered, readFrom, Says, quiet, opens, tells, says, isRecorded, records, compares, shows, refuses, BecomesOf, becomes-of}
 use Rattle.import_log.proofs.Came.{Came, came}
-use Rattle.import_log.proofs.Stock.{stockIn, origin-socket, opened-empty, StockAfterAll, unchanged, openedIn, recordedIn, stock-after-all, further-other, Fresh, fresh}
+use Rattle.import_log.proofs.Stock.{stockIn, origin-socket, opened-empty, StockAfterAll, unchanged, openedIn, recordedIn, stock-after-all, Fresh, fresh}
 
 -- ---- a Capabilities message
 
@@ -244,10 +244,12 @@ module _ (a b : Capabilities) where
         «input_oob_action» = eqb-true (a .«input_oob_action») (b .«input_oob_action») (e7 .1) i;
       }
 
+eqb-same : (n : ℕ) → eqb n n ≡ true
+eqb-same n = eq-eqb n n refl
+
 fields-same : (a : Capabilities) → sameFields a a ≡ true
 unfolding sameFields
-fields-same a =
-    rw (eq-eqb (a .elements) _ refl, eq-eqb (a .algorithms) _ refl, eq-eqb (a .«public_key_type») _ refl, eq-eqb (a .«static_oob_type») _ refl, eq-eqb (a .«output_oob_size») _ refl, eq-eqb (a .«output_oob_action») _ refl, eq-eqb (a .«input_oob_size») _ refl, eq-eqb (a .«input_oob_action») _ refl)
+fields-same a = simp eqb-same
 
 -- what a word tells of fields behind a record's
 abbrev Tells : Word → Capabilities → Capabilities → Type 0
@@ -292,13 +294,15 @@ every-further before line row e w other = of (every-record before line row e w) 
     of t (shown d u q) = absurd (false≢true (rw q at w))
     of t (refusal q) = absurd (false≢true (rw q at w))
 
+further-row : (first c : Capabilities) → isRecordWord (furtherWord first c) ≡ true
+further-row first c = cases (sameFields first c) (λ g. rw g) (λ g. rw g)
+
 -- EVERY MESSAGE ROW IS TRUE
 pub every-message : EveryMessage
 every-message before line row e w = of (written before line row e)
   where
     of : Written before line row → MessageIsTrue before line row
     of (recorded d c u q) = let what = sym (ap (λ (r : Row). r .what) q) ∙ w in let z : _≡_ {A = ℕ} 0 1 = cc in absurd (omega arith)
-    of (compared d c first u g q) =
-        absurd (further-other first c W.Message (λ q. let z : _≡_ {A = ℕ} 0 1 = cc in omega arith) (λ q. let z : _≡_ {A = ℕ} 0 1 = cc in omega arith) (sym (ap (λ (r : Row). r .what) q) ∙ w))
+    of (compared d c first u g q) = absurd (false≢true (ap (λ (v : Word). isRecordWord v) (sym w ∙ ap (λ (r : Row). r .what) q) ∙ further-row first c))
     of (shown d u q) = message-is-true before line row d u q
     of (refusal q) = let z : _≡_ {A = ℕ} 0 1 = cc in absurd (omega arith)

@@ -20,7 +20,6 @@ use Rattle.links.specs.Promises.{addressed}
 use Rattle.links.specs.declared.Link.{Link}
 use Rattle.links.specs.declared.Found.the-variants.{At}
 use Rattle.provisioning.specs.declared.Capabilities.{Capabilities}
-use Rattle.line_fields.specs.declared.Word.{Word}
 use Rattle.line_fields.specs.declared.Word.the-variants as W
 use Rattle.line_fields.specs.declared.Field.the-variants as F
 use Rattle.stock_table.specs.declared.Stated.the-variants as T
@@ -72,6 +71,9 @@ stock-after m line s some = of (says m line)
     p : ℕ
     p = socketPlace s
 
+    field : SocketStock → Stock
+    field k = k .stock
+
     new : {stock : List SocketStock} → after m line .log .tray .stock ≡ stock → stockIn (after m line) s ≡ getD stock p (stockOf K.Unopened) .stock
     new e = ap (λ (l : List SocketStock). getD l p (stockOf K.Unopened) .stock) e
 
@@ -84,7 +86,7 @@ stock-after m line s some = of (says m line)
         cases (leb (length old) j)
         (λ b. same (new (stock ∙ set-out old j (stockOf (K.Recorded c)) (leb-true (length old) j b))))
         (λ b. recorded c (rw (← q) g)
-        (new stock ∙ rw (← q) (ap (λ (k : SocketStock). k .stock) (getD-set-same old j (stockOf (K.Recorded c)) (stockOf K.Unopened) (leb-false (length old) j b))))
+        (new stock ∙ rw (← q) (ap field (getD-set-same old j (stockOf (K.Recorded c)) (stockOf K.Unopened) (leb-false (length old) j b))))
         d q
         (record {
           row = _;
@@ -93,7 +95,7 @@ stock-after m line s some = of (says m line)
           socket = origin-socket (m .log .tray .links) j (parsed (octetsOf line)) (d .isFor) ∙ ap F.Decimal (omega arith);
         })
         refl))
-        (λ h. same (new stock ∙ ap (λ (k : SocketStock). k .stock) (getD-set-other old j p (stockOf (K.Recorded c)) (stockOf K.Unopened) (λ z. eqb-false j p h (sym z)))))
+        (λ h. same (new stock ∙ ap field (getD-set-other old j p (stockOf (K.Recorded c)) (stockOf K.Unopened) (λ z. eqb-false j p h (sym z)))))
     of-message d (compares c first u g e) = same (new (ap (λ (x : Step). x .tray .stock) e))
     of-message d (shows u e) = same (new (ap (λ (x : Step). x .tray .stock) e))
     of-message d (refuses n e) = same (new (ap (λ (x : Step). x .tray .stock) e))
@@ -106,7 +108,7 @@ stock-after m line s some = of (says m line)
         (λ g. opened id (subst (λ (u : Socket). Opens m line u id)
         (same-socket t s (leb-true 1 (t .0) (both-hold {a = leb 1 (t .0)} n .0)) some (eqb-true (socketPlace t) p g)) w))
         (λ g. same (new (ap (λ (x : Step). x .tray .stock) e)
-        ∙ ap (λ (k : SocketStock). k .stock) (getD-set-other old (socketPlace t) p (stockOf K.Missing) (stockOf K.Unopened) (λ z. eqb-false (socketPlace t) p g (sym z)))))
+        ∙ ap field (getD-set-other old (socketPlace t) p (stockOf K.Missing) (stockOf K.Unopened) (λ z. eqb-false (socketPlace t) p g (sym z)))))
     of (tells d q) = of-message d (becomes-of m line d q)
 
 -- nothing is recorded behind an opening
@@ -143,30 +145,50 @@ pub record RecordedIn (m : Import) (lines : List (List ℕ)) (s : Socket) (c : C
 pub data StockAfterAll (m : Import) (lines : List (List ℕ)) (s : Socket) : Type 0 where
   unchanged : stockIn (afterAll m lines) s ≡ stockIn m s → StockAfterAll m lines s
   openedIn : OpenedIn m lines s → StockAfterAll m lines s
-  recordedIn : (c : Capabilities) → isRecorded (stockIn m s) ≡ false → stockIn (afterAll m lines) s ≡ K.Recorded c → RecordedIn m lines s c → StockAfterAll m lines s
+  recordedIn : (c : Capabilities) → isRecorded (stockIn m s) ≡ false → stockIn (afterAll m lines) s ≡ K.Recorded c → RecordedIn m lines s c
+      → StockAfterAll m lines s
 
 pub stock-after-all : (m : Import) (lines : List (List ℕ)) (s : Socket) → 1 ≤ s .0 → StockAfterAll m lines s
 stock-after-all m [] s some = unchanged refl
 stock-after-all m (line ∷ lines) s some = of (stock-after m line s some) (stock-after-all (after m line) lines s some)
   where
     later : OpenedIn (after m line) lines s → OpenedIn m (line ∷ lines) s
-    later k = record { front = line ∷ k .front; opening = k .opening; rest = k .rest; id = k .id; split = ap (λ (l : List (List ℕ)). line ∷ l) (k .split); opens = k .opens }
+    later k = record {
+      front = line ∷ k .front;
+      opening = k .opening;
+      rest = k .rest;
+      id = k .id;
+      split = ap (λ (l : List (List ℕ)). line ∷ l) (k .split);
+      opens = k .opens;
+    }
+
+    later-record : {c : Capabilities} → RecordedIn (after m line) lines s c → RecordedIn m (line ∷ lines) s c
+    later-record k = record {
+      front = line ∷ k .front;
+      line = k .line;
+      rest = k .rest;
+      split = ap (λ (l : List (List ℕ)). line ∷ l) (k .split);
+      records = k .records;
+      stated = k .stated;
+    }
 
     of : StockAfter m line s (stockIn (after m line) s) → StockAfterAll (after m line) lines s → StockAfterAll m (line ∷ lines) s
     of (opened id w) r = openedIn (record { front = []; opening = line; rest = lines; id = id; split = refl; opens = w })
     of (same e) (unchanged g) = unchanged (g ∙ e)
     of (same e) (openedIn k) = openedIn (later k)
-    of (same e) (recordedIn c was now k) =
-        recordedIn c (rw (← e) was) now
-        (record { front = line ∷ k .front; line = k .line; rest = k .rest; split = ap (λ (l : List (List ℕ)). line ∷ l) (k .split); records = k .records; stated = k .stated })
-    of (recorded c was now d at k q) (unchanged g) = recordedIn c was (g ∙ now) (record { front = []; line = line; rest = lines; split = refl; records = k; stated = q })
+    of (same e) (recordedIn c was now k) = recordedIn c (rw (← e) was) now (later-record k)
+    of (recorded c was now d at k q) (unchanged g) =
+        recordedIn c was (g ∙ now) (record { front = []; line = line; rest = lines; split = refl; records = k; stated = q })
     of (recorded c was now d at k q) (openedIn l) = openedIn (later l)
     of (recorded c was now d at k q) (recordedIn c′ was′ now′ k′) = absurd (false≢true (sym was′ ∙ ap isRecorded now))
 
 -- ---- a `record` row
 
-pub further-other : (first c : Capabilities) (word : Word) → W.Repeated ≢ word → W.Conflict ≢ word → furtherWord first c ≢ word
-further-other first c word a b e = cases (sameFields first c) (λ g. absurd (a (rw g at e))) (λ g. absurd (b (rw g at e)))
+further-word : (first c : Capabilities) → furtherWord first c ≢ W.Record
+further-word first c e =
+    cases (sameFields first c)
+    (λ g. let q : W.Repeated ≡ W.Record = rw g at e in let z : _≡_ {A = ℕ} 0 1 = cc in absurd (omega arith))
+    (λ g. let q : W.Conflict ≡ W.Record = rw g at e in let z : _≡_ {A = ℕ} 0 1 = cc in absurd (omega arith))
 
 -- a line that writes the record of a socket: nothing was recorded, and now it is
 pub record Fresh (m : Import) (line : List ℕ) (s : Socket) : Type 0 where
@@ -192,7 +214,8 @@ fresh before line s r = of (says m line)
     of-message : (d : Delivered m line) → BecomesOf m line d (stepOf (m .log) (m .area) line) → Fresh m line s
     of-message d (records c u g e) =
         let j = d .place in
-        let decimal : F.Decimal (s .0) ≡ F.Decimal (j + 1) = sym (r .socket) ∙ ap (λ (x : Row). x .origin .socket) (is e) ∙ origin-socket (m .log .tray .links) j (parsed (octetsOf line)) (d .isFor) in
+        let decimal : F.Decimal (s .0) ≡ F.Decimal (j + 1) =
+        sym (r .socket) ∙ ap (λ (x : Row). x .origin .socket) (is e) ∙ origin-socket (m .log .tray .links) j (parsed (octetsOf line)) (d .isFor) in
         let number : s .0 ≡ j + 1 = cc in
         let place : j ≡ socketPlace s = omega arith in
         let below = delivers (stationIn m) (octetsOf line) (frame-octets line (d .isHexadecimal)) j (d .long) (d .number) (d .isFor) (d .answer) .below in
@@ -203,8 +226,7 @@ fresh before line s r = of (says m line)
           now = ap (λ (x : Step). isRecorded (stockAt (x .tray) (socketPlace s))) e
               ∙ rw (← place) (ap (λ (k : SocketStock). isRecorded (k .stock)) (getD-set-same old j (stockOf (K.Recorded c)) (stockOf K.Unopened) inside));
         }
-    of-message d (compares c first u g e) =
-        absurd (further-other first c W.Record (λ q. let z : _≡_ {A = ℕ} 0 1 = cc in omega arith) (λ q. let z : _≡_ {A = ℕ} 0 1 = cc in omega arith) (what (is e)))
+    of-message d (compares c first u g e) = absurd (further-word first c (what (is e)))
     of-message d (shows u e) =
         let w : W.Message ≡ W.Record = what (is e) in
         let z : _≡_ {A = ℕ} 0 1 = cc in absurd (omega arith)
