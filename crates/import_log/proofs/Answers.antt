@@ -1,13 +1,14 @@
 -- The promises of `specs/Answers.antt`.
 use Prim.Native.Nat.{ℕ, _+_, _*_, _≤_, _<_}
 use native.Mathlib.Omega.{arith}
-use mathlib.Core.Bool.{true}
+use mathlib.Core.Bool.{true, false≢true}
 use mathlib.Core.List.{List, [], _∷_, _++_}
 use mathlib.Core.Logic.{_≢_}
 use mathlib.Core.Path.{_≡_, refl, sym, ap, _∙_}
-use lib.ListN.{length, getD, take, drop}
+use lib.ListN.{length, take, drop}
 use lib.Seq.{take-take}
 use Rattle.octets.specs.Parts.{part}
+use Rattle.octets.proofs.Tests.{both-hold}
 use Rattle.hex.specs.Hex.{octetsOf}
 use Rattle.transactions.specs.Numbers.{socketPlace}
 use Rattle.transactions.specs.Segments.{segN, segment}
@@ -29,14 +30,13 @@ use Rattle.links.specs.declared.Answer.the-variants as A
 use Rattle.links.proofs.Lens.{part-size}
 use Rattle.links.proofs.Right.{OpenAt, found, goes, same}
 use Rattle.links.proofs.Sockets.{place-below, socket-at}
-use Rattle.provisioning.specs.Message.{messageRead, told}
+use Rattle.provisioning.specs.Message.{messageRead}
 use Rattle.provisioning.specs.declared.Capabilities.{Capabilities}
 use Rattle.provisioning.specs.declared.Message.the-variants as M
-use Rattle.provisioning.proofs.Promises.{capabilities-in-place}
 use Rattle.line_fields.specs.declared.Word.the-variants as W
 use Rattle.stock_table.specs.Rows.{recordRow}
 use Rattle.stock_table.specs.declared.Origin.{Origin}
-use Rattle.import_tray.specs.Trays.{stockAt, stationOf}
+use Rattle.import_tray.specs.Trays.{stockAt}
 use Rattle.import_tray.specs.declared.Stock.{Stock}
 use Rattle.import_tray.specs.declared.Stock.the-variants as K
 use Rattle.import_tray.specs.declared.Report.the-variants as R
@@ -44,34 +44,18 @@ use Rattle.import_tray.specs.declared.Tray.{Tray}
 use Rattle.import_tray.specs.declared.Step.{Step}
 use Rattle.import_messages.specs.Messages.{capabilitiesBy}
 use Rattle.import_frames.specs.Heard.{heardStep}
-use Rattle.import_lines.specs.Lines.{isFrame}
+use Rattle.import_lines.specs.Lines.{isFrame, isMarkedSent}
 use Rattle.import_log.specs.Logs.{Import, after, afterAll, atFirst, numberIn}
 use Rattle.import_log.specs.Records.{Opens, fieldsOf, messageOrigin}
 use Rattle.import_log.specs.Answers.{Expects, Answering, Recorded, EveryAnswer, Leaves, FromTheStart}
-use Rattle.import_log.proofs.Steps.{heard-line}
-use Rattle.import_log.proofs.Goodness.{sized, SoundLog, sound-after, sound}
+use Rattle.import_log.proofs.Operations.{stationIn, after-lines, frame-unmarked, Right, right}
+use Rattle.import_log.proofs.Rows.{heard-line, isRecorded}
+use Rattle.import_log.proofs.Records.{capabilities-read}
 use Rattle.import_log.proofs.AtOnce.{at-once}
-use Rattle.import_log.proofs.Waiting.{Waits, heard-waits, keeps-waiting}
+use Rattle.import_log.proofs.Waiting.{Waits, keeps-waiting}
 use Rattle.import_log.proofs.Opening.{opening-waits, ack-line}
 
 -- ---- the message
-
--- eight values as fields
-abbrev madeOf : List ℕ → Capabilities
-madeOf v = record {
-  elements = getD v 0 0;
-  algorithms = getD v 1 0;
-  «public_key_type» = getD v 2 0;
-  «static_oob_type» = getD v 3 0;
-  «output_oob_size» = getD v 4 0;
-  «output_oob_action» = getD v 5 0;
-  «input_oob_size» = getD v 6 0;
-  «input_oob_action» = getD v 7 0;
-}
-
--- an accepted Capabilities message has 12 octets, and its fields are those at their places
-accepted-fields : (m : List ℕ) (c : Capabilities) → messageRead m ≡ M.Capabilities c → (c ≡ fieldsOf m) × (length m ≡ 12)
-accepted-fields m c e = let a = capabilities-in-place m _ (ap told e) in (ap madeOf (a .fields), a .long)
 
 -- the first since its socket was opened
 first-recorded : (stock : Stock) → ((c : Capabilities) → stock ≢ K.Recorded c) → (tray : Tray) (s line : ℕ) (origin : Origin) (c : Capabilities)
@@ -86,12 +70,12 @@ part-front l from few many h = sym (take-take few many (drop from l) h)
 
 -- ---- the line
 
-module _ (m : Import) (g : SoundLog m) (s : Socket) (id : ℕ) (t : TransactionNumber) (x : Expects m s id t) where
+module _ (m : Import) (g : Right (stationIn m)) (s : Socket) (id : ℕ) (t : TransactionNumber) (x : Expects m s id t) where
   abbrev tray : Tray
   tray = m .log .tray
 
   abbrev σ : Station
-  σ = stationOf tray (m .area)
+  σ = stationIn m
 
   -- its place
   abbrev place : ℕ
@@ -102,7 +86,7 @@ module _ (m : Import) (g : SoundLog m) (s : Socket) (id : ℕ) (t : TransactionN
 
   opened : OpenAt Provisioner σ place id
   unfolding getLink
-  opened = record { sized = sized tray (m .area) g; notBad = g .links .notBad; below = rw (g .links .eight) below; isOpen = x .isOpen; hasId = x .hasId }
+  opened = record { sized = g .sized; notBad = g .isGood; below = rw (g .count) below; isOpen = x .isOpen; hasId = x .hasId }
 
   module _ (octets : List ℕ) (long : length octets ≡ 12) (f : List ℕ) (is : f ≡ segmentFrame id t octets 0) where
     asked : SegmentAsked octets 0
@@ -137,24 +121,20 @@ module _ (m : Import) (g : SoundLog m) (s : Socket) (id : ℕ) (t : TransactionN
         rw (n, answers, found Provisioner σ place id opened, stands, e, q) (first-recorded (stockAt tray place) (x .noRecord) _ place number (messageOrigin s id t) c)
 
 -- an answer that is awaited is recorded
-pub answer-recorded : (m : Import) → SoundLog m → (s : Socket) (id : ℕ) (t : TransactionNumber) → Expects m s id t
+pub answer-recorded : (m : Import) → Right (stationIn m) → (s : Socket) (id : ℕ) (t : TransactionNumber) → Expects m s id t
     → (line octets : List ℕ) → Answering line id t octets → Recorded m line s id t octets
 answer-recorded m g s id t x line octets a =
     let c = a .accepted .0 in
-    let r = accepted-fields octets c (a .accepted .1) in
-    ap (λ (k : Step). k .report) (heard-line (m .log .tray) (m .area) (numberIn m) line (a .isHexadecimal))
-    ∙ writes m g s id t x octets (r .1) (octetsOf line) (a .frame) (numberIn m) c (a .accepted .1)
-    ∙ ap (λ (d : Capabilities). R.Row (recordRow W.Record (numberIn m) (messageOrigin s id t) d)) (r .0)
+    let r = capabilities-read octets c (a .accepted .1) in
+    ap (λ (k : Step). k .report) (heard-line m line (a .isHexadecimal))
+    ∙ writes m g s id t x octets (r .0) (octetsOf line) (a .frame) (numberIn m) c (a .accepted .1)
+    ∙ ap (λ (d : Capabilities). R.Row (recordRow W.Record (numberIn m) (messageOrigin s id t) d)) (r .1)
 
 -- EVERY ANSWER IS RECORDED
 pub every-answer : EveryAnswer
-every-answer before s id t x line octets a = answer-recorded (afterAll atFirst before) (sound before) s id t x line octets a
+every-answer before s id t x line octets a = answer-recorded (afterAll atFirst before) (right before) s id t x line octets a
 
 -- ---- from the log's start
-
-after-append : (m : Import) (a b : List (List ℕ)) → afterAll m (a ++ b) ≡ afterAll (afterAll m a) b
-after-append m [] b = refl
-after-append m (line ∷ a) b = after-append (after m line) a b
 
 -- an open link that waits expects any number of the device's
 expects : (m : Import) (s : Socket) (id : ℕ) → Waits m s id → linkAt (m .log .tray .links) s .state ≡ S.Open → (t : TransactionNumber) → sends Device t ≡ true → Expects m s id t
@@ -165,7 +145,7 @@ expects m s id w opened t sent = record {
   sent = sent;
   awaited = record { notLast = ap (λ (l : LastDelivered). isLast l t) (w .last) };
   notHalf = λ h e. let q = sym (w .half) ∙ e in let z : _≡_ {A = ℕ} 0 1 = cc in absurd (omega arith);
-  noRecord = w .noRecord;
+  noRecord = λ c e. false≢true (sym (w .noRecord) ∙ ap isRecorded e);
 }
 
 -- the lines that open it, with the lines between them and since
@@ -183,17 +163,20 @@ module _ (before : List (List ℕ)) (opening : List ℕ) (s : Socket) (id : ℕ)
   third = after second ack
 
   at-end : afterAll atFirst (before ++ (opening ∷ (between ++ (ack ∷ since)))) ≡ afterAll third since
-  at-end = after-append atFirst before (opening ∷ (between ++ (ack ∷ since))) ∙ after-append first between (ack ∷ since)
+  at-end = after-lines atFirst before (opening ∷ (between ++ (ack ∷ since))) ∙ after-lines first between (ack ∷ since)
 
-  good-second : SoundLog second
-  good-second = sound-after first (sound-after (afterAll atFirst before) (sound before) (opening ∷ [])) between
+  good-second : Right (stationIn second)
+  good-second = rw (after-lines atFirst before (opening ∷ between)) at (right (before ++ (opening ∷ between)))
 
   waits-second : Waits second s id
-  waits-second = keeps-waiting s id first (opening-waits (afterAll atFirst before) (sound before) opening s id opens) between leave .waits
+  waits-second = keeps-waiting s id first (opening-waits (afterAll atFirst before) (right before) opening s id opens) between leave .waits
+
+  ack-leaves : Leaves id ack
+  ack-leaves = record { heard = λ e. rw isAck; sent = λ e. absurd (false≢true (sym (frame-unmarked ack isHexadecimal) ∙ both-hold {a = isMarkedSent ack} e .0)) }
 
   end-expects : (t : TransactionNumber) → sends Device t ≡ true → Expects (afterAll third since) s id t
   end-expects t sent =
-      let w = heard-waits s id second waits-second ack isHexadecimal (rw isAck) in
+      let w = keeps-waiting s id second waits-second (ack ∷ []) (ack-leaves, tt) .waits in
       let k = keeps-waiting s id third w since leaveToo in
       expects (afterAll third since) s id (k .waits) (k .opened (ack-line second good-second s id waits-second ack isHexadecimal isAck)) t sent
 

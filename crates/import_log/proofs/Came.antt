@@ -90,7 +90,7 @@ heard m (line ∷ lines) f h = of (does (m .log .tray) line) (List·Memᴰ·appe
         record { line = line; among = List·Memᴰ·head refl; isHexadecimal = e; octets = cc }
     of (opens e q) (inl k) r = let s = List·Memᴰ·eq-of-singleton (rw q at k) in let z : _≡_ {A = ℕ} 0 1 = cc in absurd (omega arith)
     of (sends s n q) (inl k) r = let s = List·Memᴰ·eq-of-singleton (rw q at k) in let z : _≡_ {A = ℕ} 0 1 = cc in absurd (omega arith)
-    of (closes s q) (inl k) r = let s = List·Memᴰ·eq-of-singleton (rw q at k) in let z : _≡_ {A = ℕ} 0 1 = cc in absurd (omega arith)
+    of (closes s a b q) (inl k) r = let s = List·Memᴰ·eq-of-singleton (rw q at k) in let z : _≡_ {A = ℕ} 0 1 = cc in absurd (omega arith)
     of (nothing q) (inl k) r = absurd (List·Memᴰ·not-nil (rw q at k))
 
 -- ---- a delivery in a log

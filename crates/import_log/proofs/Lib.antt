@@ -5,8 +5,6 @@ pub mod Rows
 pub mod Came
 pub mod Stock
 pub mod Records
-pub mod Steps
-pub mod Goodness
 pub mod AtOnce
 pub mod Waiting
 pub mod Opening

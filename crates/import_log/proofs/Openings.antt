@@ -77,7 +77,7 @@ split-at m (line ∷ lines) a c b e = of (does (m .log .tray) line) (λ x. split
     of (hears f q) r = one _ q a (rw q at e) r
     of (opens f q) r = one _ q a (rw q at e) r
     of (sends s n q) r = one _ q a (rw q at e) r
-    of (closes s q) r = one _ q a (rw q at e) r
+    of (closes s h g q) r = one _ q a (rw q at e) r
     of (nothing q) r = subst (λ (l : List Operation). SplitAt m (line ∷ lines) l c b) (ap (λ (l : List Operation). l ++ a) q) (further m line (r a (rw q at e)))
 
 -- ---- the state before each operation
@@ -93,7 +93,7 @@ module _ {S K A : Type 0} (step : S → K → A × S) (P : S → Type 0) where
 -- ---- openings
 
 -- an Open is done only where the socket is free
-done-free : (ls : List Link) (s : Socket) (id : ℕ) → told (localOpen Provisioner ls s id .0) ≡ answered "done" [] → inUse (linkAt ls s .state) ≡ false
+pub done-free : (ls : List Link) (s : Socket) (id : ℕ) → told (localOpen Provisioner ls s id .0) ≡ answered "done" [] → inUse (linkAt ls s .state) ≡ false
 unfolding localOpen
 done-free ls s id =
     cases (isSocket s (length ls))

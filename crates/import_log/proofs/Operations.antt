@@ -43,7 +43,7 @@ use Rattle.import_frames.specs.declared.Outcome.{Outcome}
 use Rattle.import_frames.specs.declared.Outcome.the-variants as O
 use Rattle.import_frames.specs.declared.Asked.{Asked}
 use Rattle.import_frames.specs.declared.Asked.the-variants as A
-use Rattle.import_lines.specs.Lines.{isFrame, isMarkedSent, beginsOpening, isOpening, isPassed, socketIn, idIn, openedBy, openedStep, plainStep, otherStep, sentLine, unheardStep, lineStep, lineArea}
+use Rattle.import_lines.specs.Lines.{isFrame, isMarkedSent, isSent, beginsOpening, isOpening, isPassed, socketIn, idIn, openedBy, openedStep, plainStep, otherStep, sentLine, unheardStep, lineStep, lineArea}
 use Rattle.import_log.specs.Logs.{Import, after, afterAll, atFirst, numberIn}
 
 -- the digits of a frame
@@ -59,8 +59,11 @@ askedOperations (A.Refused n) = []
 askedOperations (A.Send socket n) = sending socket n ∷ []
 askedOperations (A.Close socket) = closing socket ∷ []
 
+abbrev pub askedBy : Tray → List ℕ → Asked
+askedBy tray f = sentOf (tray .links) (addressed (tray .links) (parsed f)) (parsed f)
+
 abbrev pub sentOperations : Tray → List ℕ → List Operation
-sentOperations tray f = askedOperations (sentOf (tray .links) (addressed (tray .links) (parsed f)) (parsed f))
+sentOperations tray f = askedOperations (askedBy tray f)
 
 -- what a line does at the station of a tray, if anything
 unfoldable pub operationsIn : Tray → List ℕ → List Operation
@@ -78,7 +81,7 @@ pub data Does (tray : Tray) (line : List ℕ) : Type 0 where
   hears : isFrame line ≡ true → operationsIn tray line ≡ receiving (octetsOf line) ∷ [] → Does tray line
   opens : isOpening line ≡ true → operationsIn tray line ≡ opening (socketIn line) (idIn line) ∷ [] → Does tray line
   sends : (s : Socket) (n : ℕ) → operationsIn tray line ≡ sending s n ∷ [] → Does tray line
-  closes : (s : Socket) → operationsIn tray line ≡ closing s ∷ [] → Does tray line
+  closes : (s : Socket) → isSent line ≡ true → askedBy tray (octetsOf (drop 1 line)) ≡ A.Close s → operationsIn tray line ≡ closing s ∷ [] → Does tray line
   nothing : operationsIn tray line ≡ [] → Does tray line
 
 pub does : (tray : Tray) (line : List ℕ) → Does tray line
@@ -86,17 +89,14 @@ unfolding operationsIn
 does tray line =
     cases (isFrame line) (λ e. hears e (rw e)) (λ e.
     cases (isMarkedSent line) (λ g.
-    cases (isFrame (drop 1 line)) (λ h. asked (sentOf (tray .links) (addressed (tray .links) (parsed f)) (parsed f)) (rw (e, g, h))) (λ h. nothing (rw (e, g, h)))) (λ g.
+    cases (isFrame (drop 1 line)) (λ h. asked (holds-both g h) (askedBy tray (octetsOf (drop 1 line))) refl (rw (e, g, h))) (λ h. nothing (rw (e, g, h)))) (λ g.
     cases (isOpening line) (λ h. opens h (rw (e, g, h))) (λ h. nothing (rw (e, g, h)))))
   where
-    f : List ℕ
-    f = octetsOf (drop 1 line)
-
-    asked : (a : Asked) → operationsIn tray line ≡ askedOperations a → Does tray line
-    asked A.Nothing e = nothing e
-    asked (A.Refused n) e = nothing e
-    asked (A.Send s n) e = sends s n e
-    asked (A.Close s) e = closes s e
+    asked : isSent line ≡ true → (a : Asked) → askedBy tray (octetsOf (drop 1 line)) ≡ a → operationsIn tray line ≡ askedOperations a → Does tray line
+    asked h A.Nothing q e = nothing e
+    asked h (A.Refused n) q e = nothing e
+    asked h (A.Send s n) q e = sends s n e
+    asked h (A.Close s) q e = closes s h q e
 
 -- ---- openings
 
@@ -122,6 +122,12 @@ opening-no-frame line e =
 pub opening-unmarked : (line : List ℕ) → isOpening line ≡ true → isMarkedSent line ≡ false
 opening-unmarked line e = let w = opening-form line e in ne-eqb (getD line 0 0) 62 (omega (arith, w .2))
 
+pub frame-unmarked : (line : List ℕ) → isFrame line ≡ true → isMarkedSent line ≡ false
+unfolding valueOf
+frame-unmarked line f =
+    let d = digit-at line 0 (frame-digits line f) (omega (arith, leb-true 2 (length line) (both-hold {a = isHexadecimal line} {b = leb 2 (length line)} f .1))) in
+    ne-eqb (getD line 0 0) 62 (λ e. let v : valueOf (getD line 0 0) ≡ 16 = rw e in absurd (omega arith))
+
 pub opening-socket : (line : List ℕ) → isOpening line ≡ true → isSocket (socketIn line) 8 ≡ true
 opening-socket line e =
     let w = opening-form line e in
@@ -139,7 +145,7 @@ opened-by tray line s id e = of (does tray line)
     of (hears f q) = let z : _≡_ {A = ℕ} 0 1 = cc in absurd (omega arith)
     of (opens f q) = (f, cc, cc)
     of (sends t n q) = let z : _≡_ {A = ℕ} 0 1 = cc in absurd (omega arith)
-    of (closes t q) = let z : _≡_ {A = ℕ} 0 1 = cc in absurd (omega arith)
+    of (closes t h g q) = let z : _≡_ {A = ℕ} 0 1 = cc in absurd (omega arith)
     of (nothing q) = let z : _≡_ {A = ℕ} 0 1 = cc in absurd (omega arith)
 
 -- ---- the station after a line
@@ -192,7 +198,7 @@ local-links O.Nothing tray number origin = refl
 sent-station : (tray : Tray) (area : List ℕ) (number : ℕ) (f : List ℕ)
     → stationOf (sentStep tray number f .tray) area ≡ operated Provisioner (stationOf tray area) (sentOperations tray f)
 unfolding sentStep
-sent-station tray area number f = by (sentOf (tray .links) (addressed (tray .links) (parsed f)) (parsed f))
+sent-station tray area number f = by (askedBy tray f)
   where
     origin : Origin
     origin = frameOrigin (addressed (tray .links) (parsed f)) (parsed f)
@@ -214,6 +220,10 @@ station-after m line =
     (λ g. rw g (cases (isOpening line)
     (λ h. rw h (λ i. record { links = open-links tray (numberIn m) (socketIn line) (idIn line) i; area = m .area }))
     (λ h. rw h (cases (isPassed line) (λ p. rw p) (λ p. rw p)))))))
+
+pub heard-station : (m : Import) (line : List ℕ) → isFrame line ≡ true → stationIn (after m line) ≡ received Provisioner (stationIn m) (octetsOf line) .1
+unfolding operationsIn
+heard-station m line e = station-after m line ∙ rw e
 
 pub stations-after : (m : Import) (lines : List (List ℕ)) → stationIn (afterAll m lines) ≡ operated Provisioner (stationIn m) (operationsFrom m lines)
 unfolding operationsFrom
@@ -251,7 +261,7 @@ line-octets tray line = of (does tray line)
     of (hears e q) = rw q (frame-octets line e, tt)
     of (opens e q) = rw q (tt, tt)
     of (sends s n q) = rw q (tt, tt)
-    of (closes s q) = rw q (tt, tt)
+    of (closes s h g q) = rw q (tt, tt)
     of (nothing q) = rw q tt
 
 pub lines-octets : (m : Import) (lines : List (List ℕ)) → All OfOctets (operationsFrom m lines)

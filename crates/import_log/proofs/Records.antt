@@ -64,7 +64,7 @@ fieldsIn v = record {
   «input_oob_action» = getD v 7 0;
 }
 
-capabilities-read : (m : List ℕ) (c : Capabilities) → messageRead m ≡ M.Capabilities c → (length m ≡ 12) × (c ≡ fieldsOf m)
+pub capabilities-read : (m : List ℕ) (c : Capabilities) → messageRead m ≡ M.Capabilities c → (length m ≡ 12) × (c ≡ fieldsOf m)
 capabilities-read m c e = let w = capabilities-in-place m _ (ap told e) in (w .long, ap fieldsIn (w .fields))
 
 -- twelve octets are one frame, behind nine

@@ -200,6 +200,10 @@ module _ (m : Import) (line : List ℕ) where
   unfolding lineStep
   says = cases (isFrame line) (λ e. rw e (heard-says e)) (λ e. rw e unheard-says)
 
+  pub heard-line : isFrame line ≡ true → stepOf (m .log) (m .area) line ≡ heardStep tray (m .area) number (octetsOf line)
+  unfolding lineStep
+  heard-line e = rw e
+
   -- where it opens a socket
   pub opened : (s : Socket) (id : ℕ) → Opens m line s id
       → (isSocket s (length (tray .links)) ≡ true) × (stepOf (m .log) (m .area) line ≡ nothingAfter (openedTray m s id))

@@ -1,15 +1,15 @@
 -- A link from its opening on: lines without a segment or a Close for its Link ID leave it waiting for its first message.
-use Prim.Native.Nat.{ℕ}
+use Prim.Native.Nat.{ℕ, _≤_}
 use native.Mathlib.Omega.{arith}
 use mathlib.Core.Bool.{true, false, not, _&&_, false≢true}
 use mathlib.Core.List.{List, [], _∷_}
 use mathlib.Core.Logic.{_≢_}
 use mathlib.Core.Path.{_≡_, refl, sym, ap, _∙_, subst}
-use lib.Dec.{eqb}
-use lib.ListN.{length, getD, drop}
-use borrow.Author.Tests.{eqb-true, eqb-false, eq-eqb}
+use lib.Dec.{eqb, leb}
+use lib.ListN.{getD, drop}
+use borrow.Author.Tests.{eqb-true, eqb-false, eq-eqb, leb-true}
 use Rattle.octets.specs.Numbers.{Octets}
-use Rattle.octets.proofs.Tests.{cases}
+use Rattle.octets.proofs.Tests.{cases, both-hold}
 use Rattle.hex.specs.Hex.{octetsOf}
 use Rattle.transactions.specs.Numbers.{isSocket, socketPlace}
 use Rattle.transactions.specs.declared.Socket.{Socket}
@@ -20,9 +20,9 @@ use Rattle.pb_adv.specs.declared.SegmentHeader.the-variants.{Start, Continuatio
 use Rattle.pb_adv.specs.declared.Parsed.{Parsed}
 use Rattle.pb_adv.specs.declared.Parsed.the-variants as P
 use Rattle.links.specs.Links.{inUse, sends, find}
-use Rattle.links.specs.Good.{good}
 use Rattle.links.specs.Segments.{OneLink}
-use Rattle.links.specs.Station.{Station, noLink, getLink, acknowledgementStep, frameStep, atSocket, received, localOpen, linkAt}
+use Rattle.links.specs.Station.{Station, noLink, getLink, acknowledgementStep, frameStep, linkAt}
+use Rattle.links.specs.Operations.{receiving, opening, sending, closing, operate, afterAll as operated}
 use Rattle.links.specs.Promises.{addressed}
 use Rattle.links.specs.Interleaving.{All}
 use Rattle.links.specs.declared.Side.the-variants.{Provisioner}
@@ -33,40 +33,33 @@ use Rattle.links.specs.declared.HalfReceived.the-variants as H
 use Rattle.links.specs.declared.Link.{Link}
 use Rattle.links.specs.declared.Found.{Found}
 use Rattle.links.specs.declared.Found.the-variants.{At, Nowhere}
-use Rattle.links.specs.declared.Answer.{Answer}
 use Rattle.links.proofs.Frames.{found-id}
-use Rattle.links.proofs.Promises.{Does as Received, refuses, steps, does, received-at, local-calls}
+use Rattle.links.proofs.Promises.{received-at, local-calls}
 use Rattle.links.proofs.Local.{open-used, send-after}
-use Rattle.provisioning.specs.declared.Capabilities.{Capabilities}
-use Rattle.import_tray.specs.Trays.{stockAt, withLinks, stationOf}
-use Rattle.import_tray.specs.declared.Stock.the-variants as K
 use Rattle.import_tray.specs.declared.Tray.{Tray}
-use Rattle.import_frames.specs.Heard.{heardStep}
-use Rattle.import_frames.specs.Origins.{outcomeOf, socketAt}
-use Rattle.import_frames.specs.Sent.{sendsNext, segmentSent, closedAt, sentOf, sentStep}
+use Rattle.import_frames.specs.Origins.{socketAt}
+use Rattle.import_frames.specs.Sent.{sendsNext, segmentSent, closedAt, sentOf}
 use Rattle.import_frames.specs.declared.Asked.the-variants as A
-use Rattle.import_frames.specs.declared.Outcome.the-variants as O
-use Rattle.import_lines.specs.Lines.{isFrame, socketIn, idIn, openedStep, lineStep}
-use Rattle.import_log.specs.Logs.{Import, after, afterAll, numberIn}
+use Rattle.import_lines.specs.Lines.{isFrame}
+use Rattle.import_log.specs.Logs.{Import, after, afterAll}
 use Rattle.import_log.specs.Answers.{isOther, leavesOpen, leavesAlone, Leaves}
-use Rattle.import_log.proofs.Steps.{Does, hears, sends as sends-frame, opens, passes, line-does, heard-line, frame-octets, isDelivery, heard-writes, opened-writes, Sends, nothing, sending, closing, askedBy, sent-does}
+use Rattle.import_log.proofs.Operations.{Does, hears, opens, sends as sends-segment, closes, nothing, does, operationsIn, stationIn, station-after, frame-octets}
+use Rattle.import_log.proofs.Deliveries.{delivers}
+use Rattle.import_log.proofs.Openings.{done-free}
+use Rattle.import_log.proofs.Rows.{isRecorded}
+use Rattle.import_log.proofs.Stock.{stockIn, StockAfter, same, opened, recorded, stock-after}
 
 -- ---- a link that may have opened since, with its Link ID and what it received
 
-pub record Later (l m : Link) : Type 0 where
+record Later (l m : Link) : Type 0 where
   pub opened : l .state ≡ S.Open → m .state ≡ S.Open
   pub used : inUse (l .state) ≡ true → inUse (m .state) ≡ true
   pub id : m .id ≡ l .id
   pub last : m .last ≡ l .last
   pub half : m .half ≡ l .half
 
-pub later-same : (l : Link) → Later l l
+later-same : (l : Link) → Later l l
 later-same l = record { opened = λ e. e; used = λ e. e; id = refl; last = refl; half = refl }
-
--- and what the table has of its socket
-pub record Stays (s : ℕ) (before after : Tray) : Type 0 where
-  pub link : Later (getD (before .links) s noLink) (getD (after .links) s noLink)
-  pub stock : stockAt after s ≡ stockAt before s
 
 -- ---- a frame for it that is neither a segment nor a Close
 
@@ -78,78 +71,33 @@ module _ (σ : Station) (s id : ℕ) (hasId : getLink s σ .link .id ≡ id) whe
   elsewhere : (other : ℕ) → isOther other id ≡ true → find (σ .links) other ≢ At s
   elsewhere other e q = other-id other id e (found-id σ s other q ∙ hasId)
 
-  -- no delivery, and the link as it was but for its state and what it sends
-  abbrev Passes : OneLink → Answer × OneLink → Type 0
-  Passes x r = (isDelivery (outcomeOf (r .0)) ≡ false) × Later (x .link) (r .1 .link)
-
   module _ (f : List ℕ) (x : OneLink) where
-    same : Later (x .link) (x .link)
-    same = later-same (x .link)
+    unmoved : Later (x .link) (x .link)
+    unmoved = later-same (x .link)
 
-    own-as : (state : LinkState) (p : Parsed) → leavesAlone id p ≡ true → addressed (σ .links) p ≡ At s
-        → Passes x (frameStep Provisioner x state f p)
+    own-as : (state : LinkState) (p : Parsed) → leavesAlone id p ≡ true → addressed (σ .links) p ≡ At s → Later (x .link) (frameStep Provisioner x state f p .1 .link)
     unfolding frameStep acknowledgementStep
-    own-as S.Free p e q = (refl, same)
-    own-as S.Opening (P.Segment g) e q = (refl, same)
-    own-as S.Opening (P.Acknowledgement i t) e q = (refl, same)
-    own-as S.Opening (P.Open i uuid) e q = (refl, same)
-    own-as S.Opening (P.Ack i) e q = (refl, record { opened = λ _. refl; used = λ _. refl; id = refl; last = refl; half = refl })
+    own-as S.Free p e q = unmoved
+    own-as S.Opening (P.Segment g) e q = unmoved
+    own-as S.Opening (P.Acknowledgement i t) e q = unmoved
+    own-as S.Opening (P.Open i uuid) e q = unmoved
+    own-as S.Opening (P.Ack i) e q = record { opened = λ _. refl; used = λ _. refl; id = refl; last = refl; half = refl }
     own-as S.Opening (P.Close i reason) e q = absurd (elsewhere i e q)
-    own-as S.Opening (P.Refused r) e q = (refl, same)
+    own-as S.Opening (P.Refused r) e q = unmoved
     own-as S.Open (P.Segment g) e q = absurd (elsewhere (g .id) e q)
     own-as S.Open (P.Acknowledgement i t) e q =
         cases (sends Provisioner t)
         (λ u. rw u (cases (x .link .outstanding && eqb (x .link .next .0) (t .0))
-        (λ v. rw v (refl, record { opened = λ k. k; used = λ k. k; id = refl; last = refl; half = refl })) (λ v. rw v (refl, same))))
-        (λ u. rw u (refl, same))
-    own-as S.Open (P.Open i uuid) e q = (refl, same)
-    own-as S.Open (P.Ack i) e q = (refl, same)
+        (λ v. rw v (record { opened = λ k. k; used = λ k. k; id = refl; last = refl; half = refl })) (λ v. rw v unmoved)))
+        (λ u. rw u unmoved)
+    own-as S.Open (P.Open i uuid) e q = unmoved
+    own-as S.Open (P.Ack i) e q = unmoved
     own-as S.Open (P.Close i reason) e q = absurd (elsewhere i e q)
-    own-as S.Open (P.Refused r) e q = (refl, same)
+    own-as S.Open (P.Refused r) e q = unmoved
 
-    own-frame : leavesAlone id (parsed f) ≡ true → addressed (σ .links) (parsed f) ≡ At s → Passes x (frameStep Provisioner x (x .link .state) f (parsed f))
-    own-frame e q = own-as (x .link .state) (parsed f) e q
+-- ---- a frame that is sent
 
--- ---- a line
-
-module _ (tray : Tray) (area : List ℕ) (s id : ℕ) (used : inUse (getD (tray .links) s noLink .state) ≡ true) (hasId : getD (tray .links) s noLink .id ≡ id) where
-  abbrev σ : Station
-  σ = stationOf tray area
-
-  own : getLink s σ .link .id ≡ id
-  unfolding getLink
-  own = hasId
-
-  module _ (f : List ℕ) (o : Octets f) (alone : leavesAlone id (parsed f) ≡ true) where
-    heard-link : Later (getD (tray .links) s noLink) (getD (received Provisioner σ f .1 .links) s noLink)
-    unfolding getLink
-    heard-link =
-        received-at Provisioner σ f o s (λ x. Later (getLink s σ .link) (x .link)) (later-same (getLink s σ .link))
-        (λ _ _ _ at. own-frame σ s id own f (getLink s σ) alone at .1)
-
-    -- nothing is delivered for it
-    heard-quiet : isDelivery (outcomeOf (received Provisioner σ f .0)) ≡ true → addressed (tray .links) (parsed f) ≢ At s
-    heard-quiet h at = of (does Provisioner σ f)
-      where
-        of : Received Provisioner σ f (parsed f) (received Provisioner σ f) → ⊥
-        of (refuses a q) = false≢true (sym (ap (λ (r : Answer × Station). isDelivery (outcomeOf (r .0))) q) ∙ h)
-        of (steps j _ _ _ there q) =
-            let z : j ≡ s = cc in
-            let w = ap (λ (r : Answer × Station). isDelivery (outcomeOf (r .0))) q in
-            false≢true (sym (own-frame σ s id own f (getLink s σ) alone at .0) ∙ subst (λ (k : ℕ). isDelivery (outcomeOf (atSocket Provisioner σ (At k) f (parsed f) .0)) ≡ true) z (sym w ∙ h))
-
-    heard-stays : (number : ℕ) → Stays s tray (heardStep tray area number f .tray)
-    unfolding heardStep
-    heard-stays number =
-        let r = received Provisioner σ f in
-        let w = heard-writes (tray .links) (parsed f) (withLinks tray (r .1 .links)) (r .1 .area) number (outcomeOf (r .0)) in
-        record { link = rw (w .links) heard-link; stock = w .stock s (λ c. heard-quiet (c .0) (c .1)) }
-
-  as-it-was : Stays s tray tray
-  as-it-was = record { link = later-same (getD (tray .links) s noLink); stock = refl }
-
-  -- ---- sent
-
+module _ (tray : Tray) (s id : ℕ) (found-other : (other : ℕ) → isOther other id ≡ true → find (tray .links) other ≢ At s) where
   -- a segment asks for no Close
   segment-asks : (found : Found) (t : TransactionNumber) (h : SegmentHeader) (w : Socket) → segmentSent (tray .links) found t h ≢ A.Close w
   segment-asks (At j) t (Start n c) w q =
@@ -172,56 +120,74 @@ module _ (tray : Tray) (area : List ℕ) (s id : ℕ) (used : inUse (getD (tray 
   asks-other (P.Acknowledgement i t) e w q = let z : _≡_ {A = ℕ} 0 1 = cc in absurd (omega arith)
   asks-other (P.Open i uuid) e w q = let z : _≡_ {A = ℕ} 0 1 = cc in absurd (omega arith)
   asks-other (P.Ack i) e w q = let z : _≡_ {A = ℕ} 0 1 = cc in absurd (omega arith)
-  asks-other (P.Close i reason) e w q = close-asks (find (tray .links) i) w (elsewhere σ s id own i e) q
+  asks-other (P.Close i reason) e w q = close-asks (find (tray .links) i) w (found-other i e) q
   asks-other (P.Refused r) e w q = let z : _≡_ {A = ℕ} 0 1 = cc in absurd (omega arith)
 
-  sent-stays : (number : ℕ) (f : List ℕ) → leavesOpen id (parsed f) ≡ true → Stays s tray (sentStep tray number f .tray)
-  sent-stays number f e = of (sent-does tray number f)
+-- ---- a line that leaves it
+
+module _ (m : Import) (s : Socket) (id : ℕ) (some : 1 ≤ s .0) (used : inUse (linkAt (m .log .tray .links) s .state) ≡ true)
+    (hasId : linkAt (m .log .tray .links) s .id ≡ id) (line : List ℕ) (leaves : Leaves id line) where
+  abbrev tray : Tray
+  tray = m .log .tray
+
+  abbrev σ : Station
+  σ = stationIn m
+
+  abbrev LaterAt : Station → Type 0
+  LaterAt τ = Later (linkAt (σ .links) s) (linkAt (τ .links) s)
+
+  own : getLink (socketPlace s) σ .link .id ≡ id
+  unfolding getLink
+  own = hasId
+
+  as-it-was : LaterAt σ
+  as-it-was = later-same (linkAt (σ .links) s)
+
+  heard-link : (f : List ℕ) → Octets f → leavesAlone id (parsed f) ≡ true → LaterAt (operate Provisioner σ (receiving f) .1)
+  unfolding getLink
+  heard-link f o alone =
+      let x = getLink (socketPlace s) σ in
+      received-at Provisioner σ f o (socketPlace s) (λ y. Later (x .link) (y .link)) (later-same (x .link))
+      (λ _ _ _ at. own-as σ (socketPlace s) id own f x (x .link .state) (parsed f) alone at)
+
+  -- its socket is in use, so that an opening of it changes nothing
+  open-link : (w : Socket) (i : ℕ) → LaterAt (operate Provisioner σ (opening w i) .1)
+  open-link w i =
+      cases (eqb (socketPlace s) (socketPlace w))
+      (λ e. rw (open-used Provisioner (tray .links) w i (rw (← (eqb-true (socketPlace s) (socketPlace w) e)) used)) as-it-was)
+      (λ e. rw (local-calls .opening w i .leaves-others (tray .links) (socketPlace s) (eqb-false (socketPlace s) (socketPlace w) e)) as-it-was)
+
+  send-link : (w : Socket) (n : ℕ) → LaterAt (operate Provisioner σ (sending w n) .1)
+  send-link w n =
+      send-after Later later-same Provisioner (tray .links) w (socketPlace s) n
+      (λ l. record { opened = λ k. k; used = λ k. k; id = refl; last = refl; half = refl })
+
+  close-link : (w : Socket) → socketPlace s ≢ socketPlace w → LaterAt (operate Provisioner σ (closing w) .1)
+  close-link w other = rw (local-calls .closing Provisioner w .leaves-others (tray .links) (socketPlace s) other) as-it-was
+
+  link-after : LaterAt (stationIn (after m line))
+  link-after = subst LaterAt (sym (station-after m line)) (of (does tray line))
     where
-      of : {after : Tray} → Sends tray (askedBy tray f) after → Stays s tray after
+      of : Does tray line → LaterAt (operated Provisioner σ (operationsIn tray line))
+      of (hears e q) = rw q (heard-link (octetsOf line) (frame-octets line e) (leaves .heard e))
+      of (opens e q) = rw q (open-link _ _)
+      of (sends-segment w n q) = rw q (send-link w n)
+      of (closes w e a q) =
+          rw q (close-link w (asks-other tray (socketPlace s) id (λ i h. elsewhere σ (socketPlace s) id own i h) (parsed (octetsOf (drop 1 line))) (leaves .sent e) w a))
       of (nothing q) = rw q as-it-was
-      of (sending w n _ q) = rw q (record {
-        link = send-after Later later-same Provisioner (tray .links) w s n (λ l. record { opened = λ k. k; used = λ k. k; id = refl; last = refl; half = refl });
-        stock = refl;
-      })
-      of (closing w c q) =
-          let u = local-calls .closing Provisioner w .leaves-others (tray .links) s (asks-other (parsed f) e w c) in
-          rw q (record { link = rw u (later-same (getD (tray .links) s noLink)); stock = refl })
 
-  -- ---- opened
-
-  -- an opening of its own socket is refused, since that is in use
-  open-refused : (w : Socket) (i : ℕ) → s ≡ socketPlace w → (n : ℕ) × (outcomeOf (localOpen Provisioner (tray .links) w i .0) ≡ O.Refused n)
-  unfolding localOpen
-  open-refused w i e =
-      cases (isSocket w (length (tray .links)))
-      (λ r. rw r (cases (good Provisioner (tray .links)) (λ k. rw (k, ← e, used) (_, refl)) (λ k. rw k (_, refl))))
-      (λ r. rw r (_, refl))
-
-  opened-stays : (number : ℕ) (w : Socket) (i : ℕ) → Stays s tray (openedStep tray number w i .tray)
-  unfolding openedStep
-  opened-stays number w i =
-      let r = localOpen Provisioner (tray .links) w i in
-      let writes = opened-writes (outcomeOf (r .0)) (withLinks tray (r .1)) number w i in
-      cases (eqb s (socketPlace w))
-      (λ e. let q : s ≡ socketPlace w = eqb-true s (socketPlace w) e in
-      rw (open-refused w i q .1, open-used Provisioner (tray .links) w i (rw (← q) used)) as-it-was)
-      (λ e. let other = eqb-false s (socketPlace w) e in
-      record {
-        link = rw (writes .links, local-calls .opening w i .leaves-others (tray .links) s other) (later-same (getD (tray .links) s noLink));
-        stock = writes .stock s other;
-      })
-
-  -- ---- any line but a segment or a Close for it
-
-  pub line-stays : (number : ℕ) (line : List ℕ) → Leaves id line → Stays s tray (lineStep tray area number line .tray)
-  line-stays number line h = of (line-does tray area number line)
+  -- no segment for it is delivered, and its socket is not opened
+  stock-stays : stockIn (after m line) s ≡ stockIn m s
+  unfolding getLink
+  stock-stays = of (stock-after m line s some)
     where
-      of : {r : Tray × List ℕ} → Does tray area number line r → Stays s tray (r .0)
-      of (hears p e) = rw e (heard-stays (octetsOf line) (frame-octets line p) (h .heard p) number)
-      of (sends-frame p e) = rw e (sent-stays number (octetsOf (drop 1 line)) (h .sent p))
-      of (opens p e) = rw e (opened-stays number (socketIn line) (idIn line))
-      of (passes e) = rw e as-it-was
+      of : StockAfter m line s (stockIn (after m line) s) → stockIn (after m line) s ≡ stockIn m s
+      of (same e) = e
+      of (opened i w) = absurd (false≢true (sym (done-free (tray .links) s i (w .done)) ∙ used))
+      of (recorded c was now d at r q) =
+          let w = delivers σ (octetsOf line) (frame-octets line (d .isHexadecimal)) (d .place) (d .long) (d .number) (d .isFor) (d .answer) in
+          let alone : isOther (w .segment .id) id ≡ true = rw (w .isSegment) at (leaves .heard (d .isHexadecimal)) in
+          absurd (other-id (w .segment .id) id alone (w .hasId ∙ ap (λ (j : ℕ). getD (tray .links) j noLink .id) at ∙ hasId))
 
 -- ---- from the opening on
 
@@ -232,33 +198,33 @@ pub record Waits (m : Import) (s : Socket) (id : ℕ) : Type 0 where
   pub hasId : linkAt (m .log .tray .links) s .id ≡ id
   pub last : linkAt (m .log .tray .links) s .last ≡ L.Nothing
   pub half : linkAt (m .log .tray .links) s .half ≡ H.Nothing
-  pub noRecord : (c : Capabilities) → stockAt (m .log .tray) (socketPlace s) ≢ K.Recorded c
+  pub noRecord : isRecorded (stockIn m s) ≡ false
 
 module _ (s : Socket) (id : ℕ) where
-  still-waits : (m n : Import) → Waits m s id → Stays (socketPlace s) (m .log .tray) (n .log .tray) → Waits n s id
-  still-waits m n w k = record {
-    numbered = w .numbered;
-    used = k .link .used (w .used);
-    hasId = k .link .id ∙ w .hasId;
-    last = k .link .last ∙ w .last;
-    half = k .link .half ∙ w .half;
-    noRecord = λ c e. w .noRecord c (sym (k .stock) ∙ e);
-  }
-
-  -- after a frame that is heard
-  pub heard-waits : (m : Import) → Waits m s id → (line : List ℕ) → isFrame line ≡ true → leavesAlone id (parsed (octetsOf line)) ≡ true → Waits (after m line) s id
-  heard-waits m w line p e =
-      let k = heard-stays (m .log .tray) (m .area) (socketPlace s) id (w .used) (w .hasId) (octetsOf line) (frame-octets line p) e (numberIn m) in
-      still-waits m (after m line) w (rw (heard-line (m .log .tray) (m .area) (numberIn m) line p) k)
-
   -- it waits still, and is open if it was
   pub record Keeps (m n : Import) : Type 0 where
     pub waits : Waits n s id
     pub opened : linkAt (m .log .tray .links) s .state ≡ S.Open → linkAt (n .log .tray .links) s .state ≡ S.Open
 
+  keeps-line : (m : Import) → Waits m s id → (line : List ℕ) → Leaves id line → Keeps m (after m line)
+  keeps-line m w line h =
+      let some = leb-true 1 (s .0) (both-hold {a = leb 1 (s .0)} (w .numbered) .0) in
+      let k = link-after m s id some (w .used) (w .hasId) line h in
+      record {
+        waits = record {
+          numbered = w .numbered;
+          used = k .used (w .used);
+          hasId = k .id ∙ w .hasId;
+          last = k .last ∙ w .last;
+          half = k .half ∙ w .half;
+          noRecord = ap isRecorded (stock-stays m s id some (w .used) (w .hasId) line h) ∙ w .noRecord;
+        };
+        opened = k .opened;
+      }
+
   pub keeps-waiting : (m : Import) → Waits m s id → (lines : List (List ℕ)) → All (Leaves id) lines → Keeps m (afterAll m lines)
   keeps-waiting m w [] h = record { waits = w; opened = λ e. e }
   keeps-waiting m w (line ∷ lines) h =
-      let k = line-stays (m .log .tray) (m .area) (socketPlace s) id (w .used) (w .hasId) (numberIn m) line (h .0) in
-      let r = keeps-waiting (after m line) (still-waits m (after m line) w k) lines (h .1) in
-      record { waits = r .waits; opened = λ e. r .opened (k .link .opened e) }
+      let k = keeps-line m w line (h .0) in
+      let r = keeps-waiting (after m line) (k .waits) lines (h .1) in
+      record { waits = r .waits; opened = λ e. r .opened (k .opened e) }
