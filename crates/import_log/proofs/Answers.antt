@@ -46,7 +46,7 @@ use Rattle.import_messages.specs.Messages.{capabilitiesBy}
 use Rattle.import_frames.specs.Heard.{heardStep}
 use Rattle.import_lines.specs.Lines.{isFrame, isMarkedSent}
 use Rattle.import_log.specs.Logs.{Import, after, afterAll, atFirst, numberIn}
-use Rattle.import_log.specs.Records.{Opens, fieldsOf, messageOrigin}
+use Rattle.import_log.specs.Records.{Opens, messageOrigin}
 use Rattle.import_log.specs.Answers.{Expects, Answering, Recorded, EveryAnswer, Leaves, FromTheStart}
 use Rattle.import_log.proofs.Operations.{stationIn, after-lines, frame-unmarked, Right, right}
 use Rattle.import_log.proofs.Rows.{heard-line, isRecorded}
@@ -118,7 +118,8 @@ module _ (m : Import) (g : Right (stationIn m)) (s : Socket) (id : ℕ) (t : Tra
     writes number c e =
         let n = ap parsed is ∙ parsed-frame id t octets 0 asked in
         let q : place + 1 ≡ s .0 = ap (λ (z : Socket). z .0) (socket-at s 8 (x .numbered)) in
-        rw (n, answers, found Provisioner σ place id opened, stands, e, q) (first-recorded (stockAt tray place) (x .noRecord) _ place number (messageOrigin s id t) c)
+        rw (n, answers, found Provisioner σ place id opened, stands, e, q)
+        (first-recorded (stockAt tray place) (x .noRecord) _ place number (messageOrigin s id t) c)
 
 -- an answer that is awaited is recorded
 pub answer-recorded : (m : Import) → Right (stationIn m) → (s : Socket) (id : ℕ) (t : TransactionNumber) → Expects m s id t
@@ -137,7 +138,8 @@ every-answer before s id t x line octets a = answer-recorded (afterAll atFirst b
 -- ---- from the log's start
 
 -- an open link that waits expects any number of the device's
-expects : (m : Import) (s : Socket) (id : ℕ) → Waits m s id → linkAt (m .log .tray .links) s .state ≡ S.Open → (t : TransactionNumber) → sends Device t ≡ true → Expects m s id t
+expects : (m : Import) (s : Socket) (id : ℕ) → Waits m s id → linkAt (m .log .tray .links) s .state ≡ S.Open → (t : TransactionNumber) → sends Device t ≡ true
+    → Expects m s id t
 expects m s id w opened t sent = record {
   numbered = w .numbered;
   isOpen = opened;
@@ -172,7 +174,10 @@ module _ (before : List (List ℕ)) (opening : List ℕ) (s : Socket) (id : ℕ)
   waits-second = keeps-waiting s id first (opening-waits (afterAll atFirst before) (right before) opening s id opens) between leave .waits
 
   ack-leaves : Leaves id ack
-  ack-leaves = record { heard = λ e. rw isAck; sent = λ e. absurd (false≢true (sym (frame-unmarked ack isHexadecimal) ∙ both-hold {a = isMarkedSent ack} e .0)) }
+  ack-leaves = record {
+    heard = λ e. rw isAck;
+    sent = λ e. absurd (false≢true (sym (frame-unmarked ack isHexadecimal) ∙ both-hold {a = isMarkedSent ack} e .0));
+  }
 
   end-expects : (t : TransactionNumber) → sends Device t ≡ true → Expects (afterAll third since) s id t
   end-expects t sent =
@@ -184,4 +189,5 @@ module _ (before : List (List ℕ)) (opening : List ℕ) (s : Socket) (id : ℕ)
 pub from-the-start : FromTheStart
 from-the-start before opening s id opens between leave ack p e since leaveToo t sent line octets a =
     let x = end-expects before opening s id opens between leave ack p e since leaveToo t sent in
-    every-answer (before ++ (opening ∷ (between ++ (ack ∷ since)))) s id t (rw (at-end before opening s id opens between leave ack p e since leaveToo) x) line octets a
+    every-answer (before ++ (opening ∷ (between ++ (ack ∷ since)))) s id t
+    (rw (at-end before opening s id opens between leave ack p e since leaveToo) x) line octets a

@@ -127,9 +127,10 @@ module _ (before : List (List ℕ)) (line : List ℕ) (isOne : isFrame line ≡ 
 
     since-opening : BeforeEach (operate Provisioner) Used (operated Provisioner σ (w .before ++ (opening s id ∷ []))) (w .since ++ ends .mid)
     since-opening =
+        let joined = after-append (operate Provisioner) σ (w .before ++ (opening s id ∷ [])) (w .since) in
         before-append (operate Provisioner) Used _ (w .since) (ends .mid) (w .held)
         (before-front (operate Provisioner) Used _ (ends .mid) (receiving f ∷ [])
-        (rw (← (after-append (operate Provisioner) σ (w .before ++ (opening s id ∷ [])) (w .since)), append-snoc (w .before) (opening s id) (w .since), ← (w .split), ← (ends .back)) from-start))
+        (rw (← joined, append-snoc (w .before) (opening s id) (w .since), ← (w .split), ← (ends .back)) from-start))
 
     came-since : OpeningOf before s id (w .since ++ ends .mid)
     came-since = opening-of before s id (w .before) (w .since ++ ends .mid) split (w .done) since-opening
@@ -139,7 +140,8 @@ module _ (before : List (List ℕ)) (line : List ℕ) (isOne : isFrame line ≡ 
       where
         of : List·Memᴰ (receiving g) (ends .mid) ⊎ List·Memᴰ (receiving g) (receiving f ∷ []) → HeardIn (came-since .opened .since ++ (line ∷ [])) g
         of (inl k) =
-            let r = heard (after (afterAll atFirst (came-since .opened .before)) (came-since .opened .opening)) (came-since .opened .since) g (rw (came-since .others) (Memᴰ·append-right (w .since) k)) in
+            let o = came-since .opened in
+            let r = heard (after (afterAll atFirst (o .before)) (o .opening)) (o .since) g (rw (came-since .others) (Memᴰ·append-right (w .since) k)) in
             record { line = r .line; among = Memᴰ·append-left (line ∷ []) (r .among); isHexadecimal = r .isHexadecimal; octets = r .octets }
         of (inr k) =
             let q = List·Memᴰ·eq-of-singleton k in
@@ -165,7 +167,8 @@ module _ (before : List (List ℕ)) (line : List ℕ) (isOne : isFrame line ≡ 
   module _ (n : ℕ) (t : TransactionNumber) (s : Socket) (numbered : isSocket s 8 ≡ true) (at : addressed (τ .links) (parsed f) ≡ At (socketPlace s))
       (u : Delivers τ f (frame-octets line isOne) (socketPlace s) n t) (m : Message) (sameNumber : m .number ≡ t)
       (same : part (received Provisioner τ f .1 .area) (1469 * socketPlace s) n ≡ m .octets)
-      (b : CameByCut Provisioner σ s (ofSocket s τ .link .id) m (past ++ (receiving f ∷ []))) (w : OpenedBy Provisioner σ s (ofSocket s τ .link .id) (b .before)) where
+      (b : CameByCut Provisioner σ s (ofSocket s τ .link .id) m (past ++ (receiving f ∷ [])))
+      (w : OpenedBy Provisioner σ s (ofSocket s τ .link .id) (b .before)) where
     abbrev its : ℕ
     its = ofSocket s τ .link .id
 
@@ -211,7 +214,8 @@ module _ (before : List (List ℕ)) (line : List ℕ) (isOne : isFrame line ≡ 
     same-octets =
         let area = received Provisioner τ f .1 .area in
         let s = socketPlace (delivery .socket) in
-        let w : take (length (m .octets)) (part area (1469 * s) 1469) ≡ m .octets = rw (after-append (operate Provisioner) σ past (receiving f ∷ [])) at (from-cut .stands) in
+        let w : take (length (m .octets)) (part area (1469 * s) 1469) ≡ m .octets =
+        rw (after-append (operate Provisioner) σ past (receiving f ∷ [])) at (from-cut .stands) in
         let few : length (m .octets) ≤ 1469 = omega (arith, simp length-take at (ap length w)) in
         ap (λ (i : ℕ). part area (1469 * s) i) long ∙ (sym (take-take (length (m .octets)) 1469 (drop (1469 * s) area) few) ∙ w)
 

@@ -79,7 +79,13 @@ module _ (x : OneLink) (size : length (x .part) ≡ 1469) (linkGood : goodLink P
   of-cut : (id : ℕ) → headerOf message 0 ≡ Start (h .length) (h .check) → segmentOctets id t header d ≡ segmentFrame id t message k
   unfolding segmentFrame
   of-cut id e =
-      rw (n .this, header-at message (h .length) (h .check) k e, long, piece-take segmentPlace refl (place-up 20 23) (h .length) written k, segment-same (h .length) (x .part) k d some room (n .inside) (n .right))
+      rw (
+        n .this,
+        header-at message (h .length) (h .check) k e,
+        long,
+        piece-take segmentPlace refl (place-up 20 23) (h .length) written k,
+        segment-same (h .length) (x .part) k d some room (n .inside) (n .right),
+      )
 
 -- ---- a delivery
 
@@ -104,7 +110,8 @@ module _ (σ : Station) (f : List ℕ) (o : Octets f) where
     pub inside : index ≤ segN n
     pub frame : f ≡ segmentFrame (segment .id) t (standing s n) index
 
-  module _ (s : ℕ) (sized : Sized σ) (stateGood : good Provisioner (σ .links) ≡ true) (below : s < length (σ .links)) (at : addressed (σ .links) (parsed f) ≡ At s)
+  module _ (s : ℕ) (sized : Sized σ) (stateGood : good Provisioner (σ .links) ≡ true) (below : s < length (σ .links))
+      (at : addressed (σ .links) (parsed f) ≡ At s)
       (q : done ≡ atSocket Provisioner σ (At s) f (parsed f)) (n : ℕ) (t : TransactionNumber) (delivered : done .0 ≡ A.Delivered n t) where
     abbrev x : OneLink
     x = getLink s σ
@@ -149,7 +156,8 @@ module _ (σ : Station) (f : List ℕ) (o : Octets f) where
             let et : h .number ≡ t = cc in
             let long′ = long x size linkGood opened (g .number) (g .header) d h k new in
             let is : standing s n ≡ message x size linkGood opened (g .number) (g .header) d h k new =
-            stands (omega (arith, few x size linkGood opened (g .number) (g .header) d h k new)) ∙ ap (λ (p : Answer × OneLink). take n (p .1 .part)) step ∙ ap (λ (i : ℕ). take i (write (x .part) (segmentPlace k) d)) (sym en) in
+            stands (omega (arith, few x size linkGood opened (g .number) (g .header) d h k new))
+            ∙ ap (λ (p : Answer × OneLink). take n (p .1 .part)) step ∙ ap (λ (i : ℕ). take i (write (x .part) (segmentPlace k) d)) (sym en) in
             let same : g .number ≡ t = sym (new .number) ∙ et in
             record {
               below = below;
@@ -162,7 +170,8 @@ module _ (σ : Station) (f : List ℕ) (o : Octets f) where
               index = k;
               inside = rw (← en) (new .inside);
               frame = rw (is, ← same)
-                  (segments-are-encodings f o g e .encoded ∙ of-cut x size linkGood opened (g .number) (g .header) d h k new (g .id) (λ i. Start (long′ i) (right i)));
+                  (segments-are-encodings f o g e .encoded
+                  ∙ of-cut x size linkGood opened (g .number) (g .header) d h k new (g .id) (λ i. Start (long′ i) (right i)));
             }
         of (isWrong end) = let a = sym (ap (λ (p : Answer × OneLink). p .0) (w ∙ end)) ∙ answer in let z : _≡_ {A = ℕ} 0 1 = cc in absurd (omega arith)
         of (isKept end) = let a = sym (ap (λ (p : Answer × OneLink). p .0) (w ∙ end)) ∙ answer in let z : _≡_ {A = ℕ} 0 1 = cc in absurd (omega arith)

@@ -50,13 +50,15 @@ opening-waits m g line s id o =
 
 -- ---- the Ack
 
-acked : (x : OneLink) (state : LinkState) → x .link .state ≡ state → inUse state ≡ true → (f : List ℕ) (id : ℕ) → frameStep Provisioner x state f (P.Ack id) .1 .link .state ≡ S.Open
+acked : (x : OneLink) (state : LinkState) → x .link .state ≡ state → inUse state ≡ true → (f : List ℕ) (id : ℕ)
+    → frameStep Provisioner x state f (P.Ack id) .1 .link .state ≡ S.Open
 unfolding frameStep
 acked x S.Free z e f id = absurd (false≢true e)
 acked x S.Opening z e f id = refl
 acked x S.Open z e f id = z
 
-module _ (σ : Station) (g : Right σ) (s id : ℕ) (below : s < 8) (used : inUse (getD (σ .links) s noLink .state) ≡ true) (hasId : getD (σ .links) s noLink .id ≡ id) where
+module _ (σ : Station) (g : Right σ) (s id : ℕ) (below : s < 8)
+    (used : inUse (getD (σ .links) s noLink .state) ≡ true) (hasId : getD (σ .links) s noLink .id ≡ id) where
   found : find (σ .links) id ≡ At s
   found = find-at (σ .links) id s (good-out Provisioner (σ .links) (g .isGood) .1) (rw (g .count) below) (rw (used, hasId) (eq-eqb id id refl))
 
@@ -67,8 +69,8 @@ module _ (σ : Station) (g : Right σ) (s id : ℕ) (below : s < 8) (used : inUs
       (ap (λ (l : Link). l .state) (getD-set-same (σ .links) s _ noLink (rw (g .count) below)) ∙ acked (getLink s σ) _ refl used f id)
 
 -- after the Ack of its Link ID a socket that waits is open
-pub ack-line : (m : Import) → Right (stationIn m) → (s : Socket) (id : ℕ) → Waits m s id → (line : List ℕ) → isFrame line ≡ true → parsed (octetsOf line) ≡ P.Ack id
-    → linkAt (after m line .log .tray .links) s .state ≡ S.Open
+pub ack-line : (m : Import) → Right (stationIn m) → (s : Socket) (id : ℕ) → Waits m s id → (line : List ℕ) → isFrame line ≡ true
+    → parsed (octetsOf line) ≡ P.Ack id → linkAt (after m line .log .tray .links) s .state ≡ S.Open
 ack-line m g s id w line p e =
     ap (λ (τ : Station). linkAt (τ .links) s .state) (heard-station m line p)
     ∙ ack-opens (stationIn m) g (socketPlace s) id (place-below s 8 (w .numbered)) (w .used) (w .hasId) (octetsOf line) e

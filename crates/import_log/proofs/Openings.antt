@@ -109,7 +109,8 @@ pub record OpeningOf (lines : List (List ℕ)) (s : Socket) (id : ℕ) (rest : L
 
 module _ (lines : List (List ℕ)) (s : Socket) (id : ℕ) (front rest : List Operation) (split : operationsFrom atFirst lines ≡ front ++ (opening s id ∷ rest))
     (done : told (operate Provisioner (operated Provisioner (stationIn atFirst) front) (opening s id) .0) ≡ answered "done" [])
-    (held : BeforeEach (operate Provisioner) (λ τ. UsedUnder id (ofSocket s τ)) (operated Provisioner (stationIn atFirst) (front ++ (opening s id ∷ []))) rest) where
+    (held : BeforeEach (operate Provisioner) (λ τ. UsedUnder id (ofSocket s τ))
+    (operated Provisioner (stationIn atFirst) (front ++ (opening s id ∷ []))) rest) where
   z : SplitAt atFirst lines front (opening s id) rest
   z = split-at atFirst lines front (opening s id) rest split
 

@@ -89,7 +89,8 @@ unfolding operationsIn
 does tray line =
     cases (isFrame line) (λ e. hears e (rw e)) (λ e.
     cases (isMarkedSent line) (λ g.
-    cases (isFrame (drop 1 line)) (λ h. asked (holds-both g h) (askedBy tray (octetsOf (drop 1 line))) refl (rw (e, g, h))) (λ h. nothing (rw (e, g, h)))) (λ g.
+    cases (isFrame (drop 1 line)) (λ h. asked (holds-both g h) (askedBy tray (octetsOf (drop 1 line))) refl (rw (e, g, h)))
+    (λ h. nothing (rw (e, g, h)))) (λ g.
     cases (isOpening line) (λ h. opens h (rw (e, g, h))) (λ h. nothing (rw (e, g, h)))))
   where
     asked : isSent line ≡ true → (a : Asked) → askedBy tray (octetsOf (drop 1 line)) ≡ a → operationsIn tray line ≡ askedOperations a → Does tray line
@@ -125,7 +126,8 @@ opening-unmarked line e = let w = opening-form line e in ne-eqb (getD line 0 0) 
 pub frame-unmarked : (line : List ℕ) → isFrame line ≡ true → isMarkedSent line ≡ false
 unfolding valueOf
 frame-unmarked line f =
-    let d = digit-at line 0 (frame-digits line f) (omega (arith, leb-true 2 (length line) (both-hold {a = isHexadecimal line} {b = leb 2 (length line)} f .1))) in
+    let two = leb-true 2 (length line) (both-hold {a = isHexadecimal line} {b = leb 2 (length line)} f .1) in
+    let d = digit-at line 0 (frame-digits line f) (omega arith) in
     ne-eqb (getD line 0 0) 62 (λ e. let v : valueOf (getD line 0 0) ≡ 16 = rw e in absurd (omega arith))
 
 pub opening-socket : (line : List ℕ) → isOpening line ≡ true → isSocket (socketIn line) 8 ≡ true
@@ -167,7 +169,7 @@ read-links R.Other tray s line origin m = refl
 heard-links : (tray : Tray) (area : List ℕ) (number : ℕ) (f : List ℕ)
     → heardStep tray area number f .tray .links ≡ received Provisioner (stationOf tray area) f .1 .links
 unfolding heardStep
-heard-links tray area number f = by (outcomeOf (done .0)) (addressed (tray .links) (parsed f))
+heard-links tray area number f = by (outcomeOf (done .0))
   where
     done : Answer × Station
     done = received Provisioner (stationOf tray area) f
@@ -176,19 +178,19 @@ heard-links tray area number f = by (outcomeOf (done .0)) (addressed (tray .link
     at (At s) t n = let m = messageRead _ in read-links (readingOf m) t s number (frameOrigin (At s) (parsed f)) m
     at Nowhere t n = refl
 
-    by : (o : Outcome) (found : Found) → heardBy o (tray .links) (parsed f) (withLinks tray (done .1 .links)) (done .1 .area) number .tray .links ≡ done .1 .links
-    by (O.Refused n) found = refl
-    by (O.Delivered n t) found = at (addressed (tray .links) (parsed f)) _ n
-    by O.Nothing found = refl
+    by : (o : Outcome) → heardBy o (tray .links) (parsed f) (withLinks tray (done .1 .links)) (done .1 .area) number .tray .links ≡ done .1 .links
+    by (O.Refused n) = refl
+    by (O.Delivered n t) = at (addressed (tray .links) (parsed f)) _ n
+    by O.Nothing = refl
 
 open-links : (tray : Tray) (number : ℕ) (s : Socket) (id : ℕ) → openedStep tray number s id .tray .links ≡ localOpen Provisioner (tray .links) s id .1
 unfolding openedStep
-open-links tray number s id = by (outcomeOf (localOpen Provisioner (tray .links) s id .0))
+open-links tray number s id = let r = localOpen Provisioner (tray .links) s id in by (withLinks tray (r .1)) (outcomeOf (r .0))
   where
-    by : (o : Outcome) → openedBy o (withLinks tray (localOpen Provisioner (tray .links) s id .1)) number s id .tray .links ≡ localOpen Provisioner (tray .links) s id .1
-    by (O.Refused n) = refl
-    by (O.Delivered n t) = refl
-    by O.Nothing = refl
+    by : (t : Tray) (o : Outcome) → openedBy o t number s id .tray .links ≡ t .links
+    by t (O.Refused n) = refl
+    by t (O.Delivered n u) = refl
+    by t O.Nothing = refl
 
 local-links : (o : Outcome) (tray : Tray) (number : ℕ) (origin : Origin) → localBy o tray number origin .tray .links ≡ tray .links
 local-links (O.Refused n) tray number origin = refl
@@ -206,15 +208,22 @@ sent-station tray area number f = by (askedBy tray f)
     by : (a : Asked) → stationOf (sentBy a tray number origin .tray) area ≡ operated Provisioner (stationOf tray area) (askedOperations a)
     by A.Nothing = refl
     by (A.Refused n) = refl
-    by (A.Send s n) = λ i. record { links = local-links (outcomeOf (localSend Provisioner (tray .links) s n .0)) (withLinks tray (localSend Provisioner (tray .links) s n .1)) number origin i; area = area }
-    by (A.Close s) = λ i. record { links = local-links (outcomeOf (localClose Provisioner (tray .links) s .0)) (withLinks tray (localClose Provisioner (tray .links) s .1)) number origin i; area = area }
+    by (A.Send s n) =
+        let r = localSend Provisioner (tray .links) s n in
+        λ i. record { links = local-links (outcomeOf (r .0)) (withLinks tray (r .1)) number origin i; area = area }
+    by (A.Close s) =
+        let r = localClose Provisioner (tray .links) s in
+        λ i. record { links = local-links (outcomeOf (r .0)) (withLinks tray (r .1)) number origin i; area = area }
 
 pub station-after : (m : Import) (line : List ℕ) → stationIn (after m line) ≡ operated Provisioner (stationIn m) (operationsIn (m .log .tray) line)
 unfolding lineStep lineArea unheardStep sentLine otherStep plainStep operationsIn heardArea
 station-after m line =
     let tray = m .log .tray in
     cases (isFrame line)
-    (λ e. rw e (λ i. record { links = heard-links tray (m .area) (numberIn m) (octetsOf line) i; area = received Provisioner (stationIn m) (octetsOf line) .1 .area }))
+    (λ e. rw e (λ i. record {
+      links = heard-links tray (m .area) (numberIn m) (octetsOf line) i;
+      area = received Provisioner (stationIn m) (octetsOf line) .1 .area;
+    }))
     (λ e. rw e (cases (isMarkedSent line)
     (λ g. rw g (cases (isFrame (drop 1 line)) (λ h. rw h (sent-station tray (m .area) (numberIn m) (octetsOf (drop 1 line)))) (λ h. rw h)))
     (λ g. rw g (cases (isOpening line)
@@ -230,7 +239,8 @@ unfolding operationsFrom
 stations-after m [] = refl
 stations-after m (line ∷ lines) =
     stations-after (after m line) lines
-    ∙ rw (station-after m line) (sym (after-append (operate Provisioner) (stationIn m) (operationsIn (m .log .tray) line) (operationsFrom (after m line) lines)))
+    ∙ rw (station-after m line)
+    (sym (after-append (operate Provisioner) (stationIn m) (operationsIn (m .log .tray) line) (operationsFrom (after m line) lines)))
 
 -- ---- lines behind lines
 
@@ -267,7 +277,8 @@ line-octets tray line = of (does tray line)
 pub lines-octets : (m : Import) (lines : List (List ℕ)) → All OfOctets (operationsFrom m lines)
 unfolding operationsFrom
 lines-octets m [] = tt
-lines-octets m (line ∷ lines) = all-append (operationsIn (m .log .tray) line) (operationsFrom (after m line) lines) (line-octets (m .log .tray) line) (lines-octets (after m line) lines)
+lines-octets m (line ∷ lines) =
+    all-append (operationsIn (m .log .tray) line) (operationsFrom (after m line) lines) (line-octets (m .log .tray) line) (lines-octets (after m line) lines)
 
 -- ---- the station after lines
 

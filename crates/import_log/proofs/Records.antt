@@ -45,7 +45,7 @@ use Rattle.import_frames.specs.Origins.{frameOrigin}
 use Rattle.import_log.specs.Logs.{Import, reportIn, stepOf, after, afterAll, atFirst, numberIn}
 use Rattle.import_log.specs.Records.{LatestOpening, messageOrigin, fieldsOf, isRecordWord, IsTrue, EveryRecord, RecordsAt, OpenedBetween, OneRecord, RecordedSince, FurtherIsTrue, EveryFurther, MessageIsTrue, EveryMessage}
 use Rattle.import_log.proofs.Operations.{stationIn, after-lines}
-use Rattle.import_log.proofs.Rows.{row-is, Delivered, readFrom, Says, quiet, opens, tells, says, isRecorded, records, compares, shows, refuses, BecomesOf, becomes-of}
+use Rattle.import_log.proofs.Rows.{row-is, Delivered, readFrom, originFrom, Says, quiet, opens, tells, says, isRecorded, records, compares, shows, refuses, BecomesOf, becomes-of}
 use Rattle.import_log.proofs.Came.{Came, came}
 use Rattle.import_log.proofs.Stock.{stockIn, origin-socket, opened-empty, StockAfterAll, unchanged, openedIn, recordedIn, stock-after-all, Fresh, fresh}
 
@@ -94,13 +94,15 @@ module _ (before : List (List ℕ)) (line : List ℕ) (row : Row) where
     place = let p = d .isFor in let q = c .isFor in cc
 
     read : messageRead (c .octets) ≡ readFrom m line d
-    read = sym (ap (λ (i : ℕ). messageRead (part (received Provisioner (stationIn m) (octetsOf line) .1 .area) (1469 * i) (d .long))) place ∙ ap messageRead (c .stands))
+    read =
+        let area = received Provisioner (stationIn m) (octetsOf line) .1 .area in
+        sym (ap (λ (i : ℕ). messageRead (part area (1469 * i) (d .long))) place ∙ ap messageRead (c .stands))
 
-    origin : frameOrigin (At (d .place)) (parsed (octetsOf line)) ≡ messageOrigin (c .socket) (c .id) (d .number)
+    origin : originFrom m line d ≡ messageOrigin (c .socket) (c .id) (d .number)
     origin = ap (λ (i : ℕ). frameOrigin (At i) (parsed (octetsOf line))) place ∙ c .origin
 
     is-true : (word : Word) (fields : Capabilities) → readFrom m line d ≡ M.Capabilities fields
-        → row ≡ recordRow word (numberIn m) (frameOrigin (At (d .place)) (parsed (octetsOf line))) fields → IsTrue before line row
+        → row ≡ recordRow word (numberIn m) (originFrom m line d) fields → IsTrue before line row
     is-true word fields e q =
         let what : word ≡ row .what = sym (ap (λ (r : Row). r .what) q) in
         let w = capabilities-read (c .octets) fields (read ∙ e) in
@@ -122,7 +124,7 @@ module _ (before : List (List ℕ)) (line : List ℕ) (row : Row) where
         }
 
     message-is-true : readingOf (readFrom m line d) ≡ G.Other
-        → row ≡ messageRow (numberIn m) (frameOrigin (At (d .place)) (parsed (octetsOf line))) (readFrom m line d) → MessageIsTrue before line row
+        → row ≡ messageRow (numberIn m) (originFrom m line d) (readFrom m line d) → MessageIsTrue before line row
     message-is-true a q = record {
       socket = c .socket;
       id = c .id;
@@ -140,11 +142,11 @@ module _ (before : List (List ℕ)) (line : List ℕ) (row : Row) where
   -- a row that a line writes: of a message that it delivers, or a refusal
   data Written : Type 0 where
     recorded : (d : Delivered m line) (c : Capabilities) → readFrom m line d ≡ M.Capabilities c
-        → row ≡ recordRow W.Record (numberIn m) (frameOrigin (At (d .place)) (parsed (octetsOf line))) c → Written
+        → row ≡ recordRow W.Record (numberIn m) (originFrom m line d) c → Written
     compared : (d : Delivered m line) (c first : Capabilities) → readFrom m line d ≡ M.Capabilities c → stockAt (m .log .tray) (d .place) ≡ K.Recorded first
-        → row ≡ recordRow (furtherWord first c) (numberIn m) (frameOrigin (At (d .place)) (parsed (octetsOf line))) c → Written
+        → row ≡ recordRow (furtherWord first c) (numberIn m) (originFrom m line d) c → Written
     shown : (d : Delivered m line) → readingOf (readFrom m line d) ≡ G.Other
-        → row ≡ messageRow (numberIn m) (frameOrigin (At (d .place)) (parsed (octetsOf line))) (readFrom m line d) → Written
+        → row ≡ messageRow (numberIn m) (originFrom m line d) (readFrom m line d) → Written
     refusal : row .what ≡ W.Refused → Written
 
   written : reportIn m line ≡ R.Row row → Written
@@ -191,7 +193,8 @@ one-record before first between second s a b =
     of x y (unchanged k) =
         let e : afterAll atFirst (before ++ (first ∷ between)) ≡ afterAll m between = after-lines atFirst before (first ∷ between) in
         absurd (false≢true (sym (y .was) ∙ ap (λ (n : Import). isRecorded (stockIn n s)) e ∙ ap isRecorded k ∙ x .now))
-    of x y (openedIn k) = record { front = k .front; opening = k .opening; rest = k .rest; id = k .id; split = k .split; opens = rw (here (k .front)) (k .opens) }
+    of x y (openedIn k) =
+        record { front = k .front; opening = k .opening; rest = k .rest; id = k .id; split = k .split; opens = rw (here (k .front)) (k .opens) }
     of x y (recordedIn c was now k) = absurd (false≢true (sym was ∙ x .now))
 
 -- ---- a further message

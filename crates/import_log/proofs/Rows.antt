@@ -78,14 +78,17 @@ pub record Delivered (m : Import) (line : List ℕ) : Type 0 where
   pub answer : received Provisioner (stationIn m) (octetsOf line) .0 ≡ A.Delivered long number
   pub isFor : addressed (m .log .tray .links) (parsed (octetsOf line)) ≡ At place
 
--- the message as it is read, and what becomes of it
+-- the message as it is read, its origin, and what becomes of it
 abbrev pub readFrom : (m : Import) (line : List ℕ) → Delivered m line → Message
 readFrom m line d = messageRead (part (received Provisioner (stationIn m) (octetsOf line) .1 .area) (1469 * d .place) (d .long))
+
+abbrev pub originFrom : (m : Import) (line : List ℕ) → Delivered m line → Origin
+originFrom m line d = frameOrigin (At (d .place)) (parsed (octetsOf line))
 
 abbrev pub stepFrom : (m : Import) (line : List ℕ) → Delivered m line → Step
 stepFrom m line d =
     messageStep (withLinks (m .log .tray) (received Provisioner (stationIn m) (octetsOf line) .1 .links)) (d .place) (numberIn m)
-    (frameOrigin (At (d .place)) (parsed (octetsOf line))) (readFrom m line d)
+    (originFrom m line d) (readFrom m line d)
 
 -- the tray behind an opening
 abbrev pub openedTray : Import → Socket → ℕ → Tray
@@ -169,6 +172,9 @@ module _ (m : Import) (line : List ℕ) where
 
   -- ---- an opening
 
+  abbrev OpenCalls : Socket → ℕ → Answer × List Link → Type 0
+  OpenCalls s id r = Calls Provisioner (tray .links) s (isFound (find (tray .links) id) ≡ false) A.Done (blankWith Provisioner L.Opening id) r
+
   open-says : isOpening line ≡ true → Says m line (openedStep tray number (socketIn line) (idIn line))
   unfolding openedStep
   open-says form = of (open-calls Provisioner (tray .links) (socketIn line) (idIn line))
@@ -179,8 +185,11 @@ module _ (m : Import) (line : List ℕ) where
       id : ℕ
       id = idIn line
 
-      of : Calls Provisioner (tray .links) s (isFound (find (tray .links) id) ≡ false) A.Done (blankWith Provisioner L.Opening id) (localOpen Provisioner (tray .links) s id)
-          → Says m line (openedBy (outcomeOf (localOpen Provisioner (tray .links) s id .0)) (withLinks tray (localOpen Provisioner (tray .links) s id .1)) number s id)
+      r : Answer × List Link
+      r = localOpen Provisioner (tray .links) s id
+
+      of : OpenCalls s id r
+          → Says m line (openedBy (outcomeOf (r .0)) (withLinks tray (r .1)) number s id)
       of (refusal q e) = rw e (quiet (record { refuses = refl; same = refl }))
       of (written r g u e) =
           let w : Opens m line s id = record { form = form; socket = refl; linkId = refl; done = ap (λ (x : Answer × List Link). told (x .0)) e } in
@@ -192,9 +201,11 @@ module _ (m : Import) (line : List ℕ) where
   unfolding unheardStep sentLine otherStep plainStep
   unheard-says =
       cases (isMarkedSent line)
-      (λ e. rw e (cases (isFrame (drop 1 line)) (λ g. rw g (quiet (sent-quiet (octetsOf (drop 1 line))))) (λ g. rw g (quiet (record { refuses = refl; same = refl })))))
+      (λ e. rw e (cases (isFrame (drop 1 line)) (λ g. rw g (quiet (sent-quiet (octetsOf (drop 1 line)))))
+      (λ g. rw g (quiet (record { refuses = refl; same = refl })))))
       (λ e. rw e (cases (isOpening line) (λ g. rw g (open-says g))
-      (λ g. rw g (cases (isPassed line) (λ p. rw p (quiet (record { refuses = tt; same = refl }))) (λ p. rw p (quiet (record { refuses = refl; same = refl })))))))
+      (λ g. rw g (cases (isPassed line) (λ p. rw p (quiet (record { refuses = tt; same = refl })))
+      (λ p. rw p (quiet (record { refuses = refl; same = refl })))))))
 
   pub says : Says m line (stepOf (m .log) (m .area) line)
   unfolding lineStep
@@ -213,7 +224,7 @@ module _ (m : Import) (line : List ℕ) where
       step : stepOf (m .log) (m .area) line ≡ openedStep tray number s id
       step = rw (opening-no-frame line (o .form), opening-unmarked line (o .form), o .form) (rw (o .socket, o .linkId))
 
-      of : Calls Provisioner (tray .links) s (isFound (find (tray .links) id) ≡ false) A.Done (blankWith Provisioner L.Opening id) (localOpen Provisioner (tray .links) s id)
+      of : OpenCalls s id (localOpen Provisioner (tray .links) s id)
           → (isSocket s (length (tray .links)) ≡ true) × (stepOf (m .log) (m .area) line ≡ nothingAfter (openedTray m s id))
       of (refusal q e) = other-told _ _ refl (sym (ap (λ (x : Answer × List Link). told (x .0)) e) ∙ o .done)
       of (written r g u e) = (r, step ∙ rw e)
@@ -257,7 +268,7 @@ module _ (tray : Tray) (s number : ℕ) (origin : Origin) where
 abbrev pub BecomesOf : (m : Import) (line : List ℕ) → Delivered m line → Step → Type 0
 BecomesOf m line d step =
     Becomes (withLinks (m .log .tray) (received Provisioner (stationIn m) (octetsOf line) .1 .links)) (d .place) (numberIn m)
-    (frameOrigin (At (d .place)) (parsed (octetsOf line))) (readFrom m line d) step
+    (originFrom m line d) (readFrom m line d) step
 
 pub becomes-of : (m : Import) (line : List ℕ) (d : Delivered m line) {step : Step} → step ≡ stepFrom m line d → BecomesOf m line d step
 becomes-of m line d e = rw e (becomes _ (d .place) _ _ (readFrom m line d))

@@ -32,7 +32,7 @@ use Rattle.import_tray.specs.declared.Tray.{Tray}
 use Rattle.import_tray.specs.declared.Step.{Step}
 use Rattle.import_messages.specs.Messages.{sameFields, furtherWord}
 use Rattle.import_frames.specs.Origins.{frameOrigin}
-use Rattle.import_log.specs.Logs.{Import, stepOf, after, afterAll, atFirst, numberIn}
+use Rattle.import_log.specs.Logs.{Import, stepOf, after, afterAll, atFirst}
 use Rattle.import_log.specs.Records.{Opens, RecordsAt}
 use Rattle.import_log.proofs.Operations.{stationIn, frame-octets, opening-socket, right}
 use Rattle.import_log.proofs.Deliveries.{delivers}

@@ -40,7 +40,6 @@ use Rattle.import_tray.specs.declared.Tray.{Tray}
 use Rattle.import_frames.specs.Origins.{socketAt}
 use Rattle.import_frames.specs.Sent.{sendsNext, segmentSent, closedAt, sentOf}
 use Rattle.import_frames.specs.declared.Asked.the-variants as A
-use Rattle.import_lines.specs.Lines.{isFrame}
 use Rattle.import_log.specs.Logs.{Import, after, afterAll}
 use Rattle.import_log.specs.Answers.{isOther, leavesOpen, leavesAlone, Leaves}
 use Rattle.import_log.proofs.Operations.{Does, hears, opens, sends as sends-segment, closes, nothing, does, operationsIn, stationIn, station-after, frame-octets}
@@ -75,7 +74,8 @@ module _ (σ : Station) (s id : ℕ) (hasId : getLink s σ .link .id ≡ id) whe
     unmoved : Later (x .link) (x .link)
     unmoved = later-same (x .link)
 
-    own-as : (state : LinkState) (p : Parsed) → leavesAlone id p ≡ true → addressed (σ .links) p ≡ At s → Later (x .link) (frameStep Provisioner x state f p .1 .link)
+    own-as : (state : LinkState) (p : Parsed) → leavesAlone id p ≡ true → addressed (σ .links) p ≡ At s
+        → Later (x .link) (frameStep Provisioner x state f p .1 .link)
     unfolding frameStep acknowledgementStep
     own-as S.Free p e q = unmoved
     own-as S.Opening (P.Segment g) e q = unmoved
@@ -173,7 +173,8 @@ module _ (m : Import) (s : Socket) (id : ℕ) (some : 1 ≤ s .0) (used : inUse 
       of (opens e q) = rw q (open-link _ _)
       of (sends-segment w n q) = rw q (send-link w n)
       of (closes w e a q) =
-          rw q (close-link w (asks-other tray (socketPlace s) id (λ i h. elsewhere σ (socketPlace s) id own i h) (parsed (octetsOf (drop 1 line))) (leaves .sent e) w a))
+          let other = asks-other tray (socketPlace s) id (elsewhere σ (socketPlace s) id own) (parsed (octetsOf (drop 1 line))) (leaves .sent e) w a in
+          rw q (close-link w other)
       of (nothing q) = rw q as-it-was
 
   -- no segment for it is delivered, and its socket is not opened

@@ -1,7 +1,7 @@
 -- EVERY ANSWER IS RECORDED, with premises for that one link alone: whatever came before, on this and any other link. The proofs are `proofs/Answers.antt`.
 use Prim.Native.Nat.{ℕ}
 use mathlib.Core.Bool.{Bool, true, not}
-use mathlib.Core.List.{List, [], _∷_, _++_}
+use mathlib.Core.List.{List, _∷_, _++_}
 use mathlib.Core.Logic.{_≢_}
 use mathlib.Core.Path.{_≡_}
 use lib.Dec.{eqb}
@@ -21,7 +21,6 @@ use Rattle.links.specs.declared.Side.the-variants.{Device}
 use Rattle.links.specs.declared.LinkState.the-variants as S
 use Rattle.links.specs.declared.HalfMessage.{HalfMessage}
 use Rattle.links.specs.declared.HalfReceived.the-variants as H
-use Rattle.links.specs.declared.Link.{Link}
 use Rattle.provisioning.specs.Message.{messageRead}
 use Rattle.provisioning.specs.declared.Capabilities.{Capabilities}
 use Rattle.provisioning.specs.declared.Message.the-variants as M

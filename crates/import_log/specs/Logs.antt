@@ -4,7 +4,6 @@ use mathlib.Core.Bool.{cond}
 use mathlib.Core.List.{List, [], _∷_, _++_}
 use lib.Dec.{ltb}
 use lib.ListN.{replicate}
-use Rattle.transactions.specs.declared.Socket.{Socket}
 use Rattle.stock_table.specs.Rows.{endRow}
 use Rattle.stock_table.specs.Columns.{rowLine}
 use Rattle.import_tray.specs.Trays.{newTray, reportText, lastReport}
