@@ -34,18 +34,14 @@ use Rattle.stock_table.specs.Rows.{recordRow, messageRow}
 use Rattle.stock_table.specs.declared.Origin.{Origin}
 use Rattle.stock_table.specs.declared.Stated.the-variants as T
 use Rattle.stock_table.specs.declared.Row.{Row}
-use Rattle.import_tray.specs.Trays.{stockAt, rowAfter}
 use Rattle.import_tray.specs.declared.Stock.the-variants as K
-use Rattle.import_tray.specs.declared.Report.the-variants as R
-use Rattle.import_tray.specs.declared.Tray.{Tray}
-use Rattle.import_tray.specs.declared.Step.{Step}
 use Rattle.import_messages.specs.Messages.{readingOf, sameFields, furtherWord}
 use Rattle.import_messages.specs.declared.Reading.the-variants as G
 use Rattle.import_frames.specs.Origins.{frameOrigin}
-use Rattle.import_log.specs.Logs.{Import, reportIn, stepOf, after, afterAll, atFirst, numberIn}
+use Rattle.import_log.specs.Logs.{Import, after, afterAll, atFirst, numberIn}
 use Rattle.import_log.specs.Records.{LatestOpening, messageOrigin, fieldsOf, isRecordWord, IsTrue, EveryRecord, RecordsAt, OpenedBetween, OneRecord, RecordedSince, FurtherIsTrue, EveryFurther, MessageIsTrue, EveryMessage}
 use Rattle.import_log.proofs.Operations.{stationIn, after-lines}
-use Rattle.import_log.proofs.Rows.{row-is, Delivered, readFrom, originFrom, Says, quiet, opens, tells, says, isRecorded, records, compares, shows, refuses, BecomesOf, becomes-of}
+use Rattle.import_log.proofs.Rows.{Delivered, readFrom, originFrom, isRecorded, Written, isRecord, isFurther, isMessage, isRefusal, line-writes}
 use Rattle.import_log.proofs.Came.{Came, came}
 use Rattle.import_log.proofs.Stock.{stockIn, origin-socket, opened-empty, StockAfterAll, unchanged, openedIn, recordedIn, stock-after-all, Fresh, fresh}
 
@@ -139,42 +135,15 @@ module _ (before : List (List ℕ)) (line : List ℕ) (row : Row) where
           ∙ ap (messageRow (numberIn m) (messageOrigin (c .socket) (c .id) (d .number))) (sym read);
     }
 
-  -- a row that a line writes: of a message that it delivers, or a refusal
-  data Written : Type 0 where
-    recorded : (d : Delivered m line) (c : Capabilities) → readFrom m line d ≡ M.Capabilities c
-        → row ≡ recordRow W.Record (numberIn m) (originFrom m line d) c → Written
-    compared : (d : Delivered m line) (c first : Capabilities) → readFrom m line d ≡ M.Capabilities c → stockAt (m .log .tray) (d .place) ≡ K.Recorded first
-        → row ≡ recordRow (furtherWord first c) (numberIn m) (originFrom m line d) c → Written
-    shown : (d : Delivered m line) → readingOf (readFrom m line d) ≡ G.Other
-        → row ≡ messageRow (numberIn m) (originFrom m line d) (readFrom m line d) → Written
-    refusal : row .what ≡ W.Refused → Written
-
-  written : reportIn m line ≡ R.Row row → Written
-  written e = of (says m line)
-    where
-      is : {tray : Tray} {other : Row} → stepOf (m .log) (m .area) line ≡ rowAfter tray other → row ≡ other
-      is {tray} {other} q = row-is row other (sym e ∙ ap (λ (x : Step). x .report) q)
-
-      of-message : (d : Delivered m line) → BecomesOf m line d (stepOf (m .log) (m .area) line) → Written
-      of-message d (records c u g q) = recorded d c u (is q)
-      of-message d (compares c first u g q) = compared d c first u g (is q)
-      of-message d (shows u q) = shown d u (is q)
-      of-message d (refuses n q) = refusal (ap (λ (x : Row). x .what) (is q))
-
-      of : Says m line (stepOf (m .log) (m .area) line) → Written
-      of (quiet r) = refusal (rw e at (r .refuses))
-      of (opens s id w q) = let r = sym e ∙ ap (λ (x : Step). x .report) q in let z : _≡_ {A = ℕ} 0 1 = cc in absurd (omega arith)
-      of (tells d q) = of-message d (becomes-of m line d q)
-
 -- EVERY RECORD IS TRUE
 pub every-record : EveryRecord
-every-record before line row e w = of (written before line row e)
+every-record before line row e w = of (line-writes (afterAll atFirst before) line row e)
   where
-    of : Written before line row → IsTrue before line row
-    of (recorded d c u q) = is-true before line row d W.Record c u q
-    of (compared d c first u g q) = is-true before line row d (furtherWord first c) c u q
-    of (shown d u q) = absurd (false≢true (rw q at w))
-    of (refusal q) = absurd (false≢true (rw q at w))
+    of : Written (afterAll atFirst before) line row → IsTrue before line row
+    of (isRecord d c u was now q) = is-true before line row d W.Record c u q
+    of (isFurther d c first u g q) = is-true before line row d (furtherWord first c) c u q
+    of (isMessage d u q) = absurd (false≢true (rw q at w))
+    of (isRefusal q) = absurd (false≢true (rw q at w))
 
 -- ONE RECORD FOR AN OPENING
 pub one-record : OneRecord
@@ -274,11 +243,11 @@ decimal-is a b e = cc
 
 -- EVERY FURTHER ROW IS TRUE
 pub every-further : EveryFurther
-every-further before line row e w other = of (every-record before line row e w) (written before line row e)
+every-further before line row e w other = of (every-record before line row e w) (line-writes (afterAll atFirst before) line row e)
   where
-    of : IsTrue before line row → Written before line row → FurtherIsTrue before line row
-    of t (recorded d c u q) = absurd (other (ap (λ (r : Row). r .what) q))
-    of t (compared d c first u g q) =
+    of : IsTrue before line row → Written (afterAll atFirst before) line row → FurtherIsTrue before line row
+    of t (isRecord d c u was now q) = absurd (other (ap (λ (r : Row). r .what) q))
+    of t (isFurther d c first u g q) =
         let what : furtherWord first c ≡ row .what = sym (ap (λ (r : Row). r .what) q) in
         let fields : c ≡ fieldsOf (t .octets) = fields-are c _ (ap (λ (r : Row). r .stated) (sym q ∙ t .shown)) in
         let from : F.Decimal (t .socket .0) ≡ F.Decimal (d .place + 1) =
@@ -294,18 +263,18 @@ every-further before line row e w other = of (every-record before line row e w) 
           repeated = tells .0;
           conflict = tells .1;
         }
-    of t (shown d u q) = absurd (false≢true (rw q at w))
-    of t (refusal q) = absurd (false≢true (rw q at w))
+    of t (isMessage d u q) = absurd (false≢true (rw q at w))
+    of t (isRefusal q) = absurd (false≢true (rw q at w))
 
 further-row : (first c : Capabilities) → isRecordWord (furtherWord first c) ≡ true
 further-row first c = cases (sameFields first c) (λ g. rw g) (λ g. rw g)
 
 -- EVERY MESSAGE ROW IS TRUE
 pub every-message : EveryMessage
-every-message before line row e w = of (written before line row e)
+every-message before line row e w = of (line-writes (afterAll atFirst before) line row e)
   where
-    of : Written before line row → MessageIsTrue before line row
-    of (recorded d c u q) = let what = sym (ap (λ (r : Row). r .what) q) ∙ w in let z : _≡_ {A = ℕ} 0 1 = cc in absurd (omega arith)
-    of (compared d c first u g q) = absurd (false≢true (ap (λ (v : Word). isRecordWord v) (sym w ∙ ap (λ (r : Row). r .what) q) ∙ further-row first c))
-    of (shown d u q) = message-is-true before line row d u q
-    of (refusal q) = let z : _≡_ {A = ℕ} 0 1 = cc in absurd (omega arith)
+    of : Written (afterAll atFirst before) line row → MessageIsTrue before line row
+    of (isRecord d c u was now q) = let what = sym (ap (λ (r : Row). r .what) q) ∙ w in let z : _≡_ {A = ℕ} 0 1 = cc in absurd (omega arith)
+    of (isFurther d c first u g q) = absurd (false≢true (ap (λ (v : Word). isRecordWord v) (sym w ∙ ap (λ (r : Row). r .what) q) ∙ further-row first c))
+    of (isMessage d u q) = message-is-true before line row d u q
+    of (isRefusal q) = let z : _≡_ {A = ℕ} 0 1 = cc in absurd (omega arith)

@@ -1,9 +1,10 @@
 -- What a line writes: nothing, a refusal, or what becomes of a message that its frame delivers; and what it does to the stock.
 use Prim.Native.Nat.{ℕ, _*_}
+use native.Mathlib.Omega.{arith}
 use mathlib.Core.Bool.{Bool, true, false}
 use mathlib.Core.List.{List, [], _∷_}
 use mathlib.Core.Path.{_≡_, refl, sym, ap, _∙_}
-use lib.ListN.{length, drop, length-set}
+use lib.ListN.{length, drop, set, length-set}
 use Rattle.octets.specs.Parts.{part}
 use Rattle.octets.proofs.Tables.{other-told}
 use Rattle.octets.proofs.Tests.{cases}
@@ -31,7 +32,7 @@ use Rattle.line_fields.specs.declared.Word.the-variants as W
 use Rattle.stock_table.specs.Rows.{recordRow, messageRow, refusedRow}
 use Rattle.stock_table.specs.declared.Origin.{Origin}
 use Rattle.stock_table.specs.declared.Row.{Row}
-use Rattle.import_tray.specs.Trays.{withLinks, stockAt, withStock, rowAfter, nothingAfter}
+use Rattle.import_tray.specs.Trays.{stockOf, withLinks, stockAt, withStock, rowAfter, nothingAfter}
 use Rattle.import_tray.specs.declared.SocketStock.{SocketStock}
 use Rattle.import_tray.specs.declared.Stock.{Stock}
 use Rattle.import_tray.specs.declared.Stock.the-variants as K
@@ -49,7 +50,7 @@ use Rattle.import_frames.specs.declared.Outcome.the-variants as O
 use Rattle.import_frames.specs.declared.Asked.{Asked}
 use Rattle.import_frames.specs.declared.Asked.the-variants as Q
 use Rattle.import_lines.specs.Lines.{isFrame, isMarkedSent, isOpening, isPassed, socketIn, idIn, openedBy, openedStep, plainStep, otherStep, sentLine, unheardStep, lineStep}
-use Rattle.import_log.specs.Logs.{Import, stepOf, after, afterAll, numberIn}
+use Rattle.import_log.specs.Logs.{Import, reportIn, stepOf, after, afterAll, numberIn}
 use Rattle.import_log.specs.Records.{Opens}
 use Rattle.import_log.proofs.Operations.{stationIn, opening-no-frame, opening-unmarked}
 
@@ -59,10 +60,6 @@ use Rattle.import_log.proofs.Operations.{stationIn, opening-no-frame, o
 abbrev pub Refuses : Report → Type 0
 Refuses R.Nothing = Unit {0}
 Refuses (R.Row row) = row .what ≡ W.Refused
-
--- a report has one row
-pub row-is : (a b : Row) → R.Row a ≡ R.Row b → a ≡ b
-row-is a b e = cc
 
 -- no more than that, and the stock stays
 pub record Quiet (stock : List SocketStock) (step : Step) : Type 0 where
@@ -272,6 +269,37 @@ BecomesOf m line d step =
 
 pub becomes-of : (m : Import) (line : List ℕ) (d : Delivered m line) {step : Step} → step ≡ stepFrom m line d → BecomesOf m line d step
 becomes-of m line d e = rw e (becomes _ (d .place) _ _ (readFrom m line d))
+
+-- ---- the row that a line writes
+
+-- of a message that it delivers, or a refusal
+module _ (m : Import) (line : List ℕ) (row : Row) where
+  pub data Written : Type 0 where
+    isRecord : (d : Delivered m line) (c : Capabilities) → readFrom m line d ≡ M.Capabilities c → isRecorded (stockAt (m .log .tray) (d .place)) ≡ false
+        → after m line .log .tray .stock ≡ set (m .log .tray .stock) (d .place) (stockOf (K.Recorded c))
+        → row ≡ recordRow W.Record (numberIn m) (originFrom m line d) c → Written
+    isFurther : (d : Delivered m line) (c first : Capabilities) → readFrom m line d ≡ M.Capabilities c → stockAt (m .log .tray) (d .place) ≡ K.Recorded first
+        → row ≡ recordRow (furtherWord first c) (numberIn m) (originFrom m line d) c → Written
+    isMessage : (d : Delivered m line) → readingOf (readFrom m line d) ≡ G.Other
+        → row ≡ messageRow (numberIn m) (originFrom m line d) (readFrom m line d) → Written
+    isRefusal : row .what ≡ W.Refused → Written
+
+  pub line-writes : reportIn m line ≡ R.Row row → Written
+  line-writes e = of (says m line)
+    where
+      is : {tray : Tray} {other : Row} → stepOf (m .log) (m .area) line ≡ rowAfter tray other → row ≡ other
+      is {tray} {other} q = let r : R.Row row ≡ R.Row other = sym e ∙ ap (λ (x : Step). x .report) q in cc
+
+      of-message : (d : Delivered m line) → BecomesOf m line d (stepOf (m .log) (m .area) line) → Written
+      of-message d (records c u was q) = isRecord d c u was (ap (λ (x : Step). x .tray .stock) q) (is q)
+      of-message d (compares c first u g q) = isFurther d c first u g (is q)
+      of-message d (shows u q) = isMessage d u (is q)
+      of-message d (refuses n q) = isRefusal (ap (λ (x : Row). x .what) (is q))
+
+      of : Says m line (stepOf (m .log) (m .area) line) → Written
+      of (quiet r) = isRefusal (rw e at (r .refuses))
+      of (opens s id w q) = let r = sym e ∙ ap (λ (x : Step). x .report) q in let z : _≡_ {A = ℕ} 0 1 = cc in absurd (omega arith)
+      of (tells d q) = of-message d (becomes-of m line d q)
 
 -- ---- how many sockets the stock has
 

@@ -24,11 +24,10 @@ use Rattle.line_fields.specs.declared.Word.the-variants as W
 use Rattle.line_fields.specs.declared.Field.the-variants as F
 use Rattle.stock_table.specs.declared.Stated.the-variants as T
 use Rattle.stock_table.specs.declared.Row.{Row}
-use Rattle.import_tray.specs.Trays.{stockOf, stockAt, rowAfter}
+use Rattle.import_tray.specs.Trays.{stockOf, stockAt}
 use Rattle.import_tray.specs.declared.SocketStock.{SocketStock}
 use Rattle.import_tray.specs.declared.Stock.{Stock}
 use Rattle.import_tray.specs.declared.Stock.the-variants as K
-use Rattle.import_tray.specs.declared.Tray.{Tray}
 use Rattle.import_tray.specs.declared.Step.{Step}
 use Rattle.import_messages.specs.Messages.{sameFields, furtherWord}
 use Rattle.import_frames.specs.Origins.{frameOrigin}
@@ -36,7 +35,7 @@ use Rattle.import_log.specs.Logs.{Import, stepOf, after, afterAll, atFir
 use Rattle.import_log.specs.Records.{Opens, RecordsAt}
 use Rattle.import_log.proofs.Operations.{stationIn, frame-octets, opening-socket, right}
 use Rattle.import_log.proofs.Deliveries.{delivers}
-use Rattle.import_log.proofs.Rows.{row-is, Delivered, Says, quiet, opens, tells, says, opened as opened-step, isRecorded, records, compares, shows, refuses, BecomesOf, becomes-of, stock-counts}
+use Rattle.import_log.proofs.Rows.{Delivered, Says, quiet, opens, tells, says, opened as opened-step, isRecorded, records, compares, shows, refuses, BecomesOf, becomes-of, Written, isRecord, isFurther, isMessage, isRefusal, line-writes, stock-counts}
 
 abbrev pub stockIn : Import → Socket → Stock
 stockIn m s = stockAt (m .log .tray) (socketPlace s)
@@ -197,7 +196,7 @@ pub record Fresh (m : Import) (line : List ℕ) (s : Socket) : Type 0 where
   pub now : isRecorded (stockIn (after m line) s) ≡ true
 
 pub fresh : (before : List (List ℕ)) (line : List ℕ) (s : Socket) → RecordsAt (afterAll atFirst before) line s → Fresh (afterAll atFirst before) line s
-fresh before line s r = of (says m line)
+fresh before line s r = of (line-writes m line (r .row) (r .writes))
   where
     m : Import
     m = afterAll atFirst before
@@ -205,41 +204,24 @@ fresh before line s r = of (says m line)
     old : List SocketStock
     old = m .log .tray .stock
 
-    is : {tray : Tray} {row : Row} → stepOf (m .log) (m .area) line ≡ rowAfter tray row → r .row ≡ row
-    is {tray} {row} e = row-is (r .row) row (sym (r .writes) ∙ ap (λ (x : Step). x .report) e)
-
     what : {row : Row} → r .row ≡ row → row .what ≡ W.Record
     what e = sym (ap (λ (x : Row). x .what) e) ∙ r .isRecord
 
-    of-message : (d : Delivered m line) → BecomesOf m line d (stepOf (m .log) (m .area) line) → Fresh m line s
-    of-message d (records c u g e) =
+    of : Written m line (r .row) → Fresh m line s
+    of (isRecord d c u was now q) =
         let j = d .place in
         let decimal : F.Decimal (s .0) ≡ F.Decimal (j + 1) =
-        sym (r .socket) ∙ ap (λ (x : Row). x .origin .socket) (is e) ∙ origin-socket (m .log .tray .links) j (parsed (octetsOf line)) (d .isFor) in
+        sym (r .socket) ∙ ap (λ (x : Row). x .origin .socket) q ∙ origin-socket (m .log .tray .links) j (parsed (octetsOf line)) (d .isFor) in
         let number : s .0 ≡ j + 1 = cc in
         let place : j ≡ socketPlace s = omega arith in
         let below = delivers (stationIn m) (octetsOf line) (frame-octets line (d .isHexadecimal)) j (d .long) (d .number) (d .isFor) (d .answer) .below in
         let inside : j < length old = omega (arith, below, right before .count, stock-counts atFirst before) in
         record {
           some = omega arith;
-          was = rw (← place) g;
-          now = ap (λ (x : Step). isRecorded (stockAt (x .tray) (socketPlace s))) e
+          was = rw (← place) was;
+          now = ap (λ (l : List SocketStock). isRecorded (getD l (socketPlace s) (stockOf K.Unopened) .stock)) now
               ∙ rw (← place) (ap (λ (k : SocketStock). isRecorded (k .stock)) (getD-set-same old j (stockOf (K.Recorded c)) (stockOf K.Unopened) inside));
         }
-    of-message d (compares c first u g e) = absurd (further-word first c (what (is e)))
-    of-message d (shows u e) =
-        let w : W.Message ≡ W.Record = what (is e) in
-        let z : _≡_ {A = ℕ} 0 1 = cc in absurd (omega arith)
-    of-message d (refuses n e) =
-        let w : W.Refused ≡ W.Record = what (is e) in
-        let z : _≡_ {A = ℕ} 0 1 = cc in absurd (omega arith)
-
-    of : Says m line (stepOf (m .log) (m .area) line) → Fresh m line s
-    of (quiet q) =
-        let e : r .row .what ≡ W.Refused = rw (r .writes) at (q .refuses) in
-        let e′ = r .isRecord in
-        let z : _≡_ {A = ℕ} 0 1 = cc in absurd (omega arith)
-    of (opens t id w e) =
-        let row = sym (r .writes) ∙ ap (λ (x : Step). x .report) e in
-        let z : _≡_ {A = ℕ} 0 1 = cc in absurd (omega arith)
-    of (tells d q) = of-message d (becomes-of m line d q)
+    of (isFurther d c first u g q) = absurd (further-word first c (what q))
+    of (isMessage d u q) = let w : W.Message ≡ W.Record = what q in let z : _≡_ {A = ℕ} 0 1 = cc in absurd (omega arith)
+    of (isRefusal q) = let w : W.Refused ≡ W.Record = sym q ∙ r .isRecord in let z : _≡_ {A = ℕ} 0 1 = cc in absurd (omega arith)
