@@ -1,4 +1,4 @@
--- A tray's log, line by line: the tray and the lent area after its lines, and the rows that they write.
+-- A tray's log, line by line: the tray and the lent area after its lines, and the rows that they write. Quotations are of `docs/IMPORT.md`.
 use Prim.Native.Nat.{ℕ, zero, suc, _+_}
 use mathlib.Core.Bool.{cond}
 use mathlib.Core.List.{List, [], _∷_, _++_}

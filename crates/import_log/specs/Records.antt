@@ -1,5 +1,6 @@
 -- EVERY RECORD IS TRUE, for any log: whatever the lines are, a row of a Capabilities message is written by the line of that message's one frame, with the
--- Link ID of the latest opening of its socket, and each field is that of the frame's own octets. The proofs are `proofs/Records.antt`.
+-- Link ID of the latest opening of its socket, and each field is that of the frame's own octets. The proofs are `proofs/Records.antt`. Quotations are of
+-- `docs/IMPORT.md`.
 use Prim.Native.Nat.{ℕ, _+_, _<_}
 use mathlib.Core.Bool.{Bool, true, false}
 use mathlib.Core.List.{List, [], _∷_, _++_, List·Memᴰ}
@@ -52,7 +53,7 @@ pub record LatestOpening (lines : List (List ℕ)) (s : Socket) (id : ℕ) : Typ
 
 -- ---- the rows of a Capabilities message
 
--- the fields that the octets of a Capabilities message have at their places: "octets 1, 2 to 3, 4, 5, 6, 7 to 8, 9, 10 to 11"
+-- the fields that the octets of a Capabilities message have at their places
 abbrev pub fieldsOf : List ℕ → Capabilities
 fieldsOf m = record {
   elements = getD m 1 0;
