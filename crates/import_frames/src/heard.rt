@@ -56,7 +56,7 @@ fn report_refusal(links: [Link; 8], frame: &[u8], line: u64, refusal: u8) -> Rep
     if is_repeat(next_of(links, found), parsed, refusal) {
         return Report::Nothing;
     }
-    let origin = frame_origin(found, parsed);
+    let origin = frame_origin(links, parsed);
     Report::Row(stock_table::refused_row(line, origin, refusal))
 }
 
@@ -88,7 +88,7 @@ fn deliver(tray: Tray, links: [Link; 8], area: &[u8], line: u64, frame: &[u8], l
             report: Report::Nothing,
         };
     };
-    let origin = frame_origin(found, parsed);
+    let origin = frame_origin(links, parsed);
     take_message(tray, place, line, origin, message_at(area, place, length))
 }
 

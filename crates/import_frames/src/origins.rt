@@ -6,6 +6,8 @@ use pb_adv::Parsed;
 use stock_table::Origin;
 ghost use mathlib.Core.Path.{_≡_};
 ghost use Rattle.links.specs.Promises.{addressed};
+ghost use Rattle.line_fields.specs.declared.Field.the-variants.{Number};
+ghost use Rattle.stock_table.specs.Rows.{originOf};
 ghost use Rattle.import_frames.specs.Origins.{FoundWithin, socketField, frameOrigin};
 
 // The record in use that has the frame's Link ID.
@@ -32,55 +34,42 @@ fn socket_field(found: Found) -> Field
     Field::Decimal(place as u64 + 1)
 }
 
+fn origin_at(found: Found, id: u32, number: Field) -> Origin
+    requires { ⌜ FoundWithin found ⌝ }
+    ensures { λ r. ⌜ r ≡ originOf (socketField found) (Number id) number ⌝ }
+{
+    Origin {
+        socket: socket_field(found),
+        id: Field::Number(id),
+        number: number,
+    }
+}
+
 // What a row says of a frame's origin, by the record that was found.
-pub fn frame_origin(found: Found, parsed: Parsed) -> Origin
+fn origin_by(found: Found, parsed: Parsed) -> Origin
     requires { ⌜ FoundWithin found ⌝ }
     ensures { λ r. ⌜ r ≡ frameOrigin found parsed ⌝ }
 {
-    let socket = socket_field(found);
     match parsed {
         Parsed::Segment(segment) => {
             let number = segment.number;
-            Origin {
-                socket: socket,
-                id: Field::Number(segment.id),
-                number: Field::Octet(number.0),
-            }
+            origin_at(found, segment.id, Field::Octet(number.0))
         }
-        Parsed::Acknowledgement { id, number } => {
-            Origin {
-                socket: socket,
-                id: Field::Number(id),
-                number: Field::Octet(number.0),
-            }
-        }
-        Parsed::Open { id, uuid: _ } => {
-            Origin {
-                socket: socket,
-                id: Field::Number(id),
-                number: Field::Empty,
-            }
-        }
-        Parsed::Ack { id } => {
-            Origin {
-                socket: socket,
-                id: Field::Number(id),
-                number: Field::Empty,
-            }
-        }
-        Parsed::Close { id, reason: _ } => {
-            Origin {
-                socket: socket,
-                id: Field::Number(id),
-                number: Field::Empty,
-            }
-        }
-        Parsed::Refused(_) => {
-            Origin {
-                socket: Field::Empty,
-                id: Field::Empty,
-                number: Field::Empty,
-            }
-        }
+        Parsed::Acknowledgement { id, number } => { origin_at(found, id, Field::Octet(number.0)) }
+        Parsed::Open { id, uuid: _ } => origin_at(found, id, Field::Empty),
+        Parsed::Ack { id } => origin_at(found, id, Field::Empty),
+        Parsed::Close { id, reason: _ } => origin_at(found, id, Field::Empty),
+        Parsed::Refused(_) => Origin {
+            socket: Field::Empty,
+            id: Field::Empty,
+            number: Field::Empty,
+        },
     }
+}
+
+// The same by the records.
+pub fn frame_origin(links: [Link; 8], parsed: Parsed) -> Origin
+    ensures { λ r. ⌜ r ≡ frameOrigin (addressed links parsed) parsed ⌝ }
+{
+    origin_by(find_record(links, parsed), parsed)
 }

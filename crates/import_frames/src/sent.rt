@@ -155,7 +155,7 @@ pub fn take_sent(tray: Tray, line: u64, frame: &[u8]) -> Step
     let links = tray.links;
     let parsed = pb_adv::parse(frame);
     let found = find_record(links, parsed);
-    let origin = frame_origin(found, parsed);
+    let origin = frame_origin(links, parsed);
     let asked = sent_of(links, found, parsed);
     take_asked(tray, line, origin, asked)
 }

@@ -1,5 +1,7 @@
 use mathlib.Core.Bool.{false≢true}
-use mathlib.Core.Path.{refl, sym, _∙_}
+use Prim.Native.Nat.{ℕ}
+use mathlib.Core.Path.{refl, sym, ap, _∙_}
+use Rattle.lines.specs.Streams.{isWhole}
 use borrow.Author.Needs.{needs}
 use Rattle.import_capabilities.proofs.take_turn.Statement.{statement}
 use Rattle.import_capabilities.proofs.take_turn.Tie as tie
@@ -28,7 +30,7 @@ same-length-3 c = search needs
 returns : tie.Need-returns
 returns c =
     let r = c .before .before .before .before .before .before .before .before .before .before .before .before .read-on in
-    let w = rw (c .before .before .before .before .before .before .before .before .before .begun .ensures) at (sym (c .before .before .before .before .before .before .before .before .is-whole .ensures) ∙ c .before .before .before .before .before .before .before .if1 .taken) in
+    let w = ap (λ (n : ℕ). isWhole (r .result .streams) n) (sym (c .before .before .before .before .before .before .before .before .before .begun .ensures)) ∙ sym (c .before .before .before .before .before .before .before .before .is-whole .ensures) ∙ c .before .before .before .before .before .before .before .if1 .taken in
     record {
       read = r .result;
       piece = r .ensures;
@@ -45,7 +47,7 @@ same-length-5 c = search needs
 returns-2 : tie.Need-returns-2
 returns-2 c =
     let r = c .before .before .before .before .before .read-on in
-    let n = rw (c .before .before .begun .ensures) at (sym (c .before .is-whole .ensures) ∙ c .if1 .left) in
+    let n = ap (λ (n : ℕ). isWhole (r .result .streams) n) (sym (c .before .before .begun .ensures)) ∙ sym (c .before .is-whole .ensures) ∙ c .if1 .left in
     record {
       read = r .result;
       piece = r .ensures;

@@ -22,7 +22,7 @@ returns c =
     rw e
 
 frame-origin-requires : tie.Need-frame-origin-requires
-frame-origin-requires c κs = subst FoundWithin (c .before .found .given .1) (c .before .before .before .find-record .ensures .1)
+frame-origin-requires c κs = search needs
 
 message-at-requires : tie.Need-message-at-requires
 message-at-requires c κs = subst FoundWithin (c .before .before .found .given .1) (c .before .before .before .before .find-record .ensures .1)
@@ -35,7 +35,7 @@ returns-2 c =
     let p = c .before .before .before .before .before .before .before .parse .ensures in
     let e = rw p at (sym (c .before .before .before .before .before .before .find-record .ensures .0) ∙ c .before .before .before .before .found .given .1) in
     let o = rw p at (c .before .before .frame-origin .ensures) in
-    rw (e, c .take-message .ensures, c .before .message-at .ensures, o)
+    rw (c .take-message .ensures, c .before .message-at .ensures, o, e)
 
 pub deliver-spec : {M : Type 1} → statement M
 deliver-spec =

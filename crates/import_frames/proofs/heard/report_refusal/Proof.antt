@@ -22,7 +22,7 @@ returns c =
     rw e
 
 frame-origin-requires : tie.Need-frame-origin-requires
-frame-origin-requires c κs = c .before .before .before .find-record .ensures .1
+frame-origin-requires c κs = search needs
 
 refused-row-requires : tie.Need-refused-row-requires
 refused-row-requires c κs = search needs
@@ -31,7 +31,7 @@ returns-2 : tie.Need-returns-2
 returns-2 c =
     let p = c .before .before .before .before .before .before .parse .ensures in
     let e = rw (c .before .before .before .before .next-of .ensures, c .before .before .before .before .before .find-record .ensures .0, p) at (sym (c .before .before .before .is-repeat .ensures) ∙ c .before .before .if1 .left) in
-    let o = rw (c .before .before .before .before .before .find-record .ensures .0, p) at (c .before .frame-origin .ensures) in
+    let o = rw p at (c .before .frame-origin .ensures) in
     rw (e, c .refused-row .ensures, o)
 
 pub report-refusal-spec : {M : Type 1} → statement M

@@ -10,7 +10,7 @@ find-record-requires : tie.Need-find-record-requires
 find-record-requires c κs = search needs
 
 frame-origin-requires : tie.Need-frame-origin-requires
-frame-origin-requires c κs = c .find-record .ensures .1
+frame-origin-requires c κs = search needs
 
 sent-of-requires : tie.Need-sent-of-requires
 sent-of-requires c κs = c .before .find-record .ensures .1
