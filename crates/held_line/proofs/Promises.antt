@@ -57,7 +57,7 @@ last-snoc l c =
     let n : length (l ++ (c ∷ [])) - 1 ≡ length l = omega (arith, length-append l (c ∷ [])) in
     rw n (getD-append-seam l c [] 0)
 
-ends-snoc : (l : List ℕ) (c : ℕ) → endsInReturn (l ++ (c ∷ [])) ≡ eqb c 13
+pub ends-snoc : (l : List ℕ) (c : ℕ) → endsInReturn (l ++ (c ∷ [])) ≡ eqb c 13
 ends-snoc l c = rw (last-snoc l c)
 
 front-snoc : (l : List ℕ) (c : ℕ) → take (length (l ++ (c ∷ [])) - 1) (l ++ (c ∷ [])) ≡ l
@@ -65,12 +65,12 @@ front-snoc l c =
     let n : length (l ++ (c ∷ [])) - 1 ≡ length l = omega (arith, length-append l (c ∷ [])) in
     rw n (take-append-seam l (c ∷ []))
 
-without-snoc : (l : List ℕ) (c : ℕ) → withoutReturn (l ++ (c ∷ [])) ≡ cond (eqb c 13) l (l ++ (c ∷ []))
+pub without-snoc : (l : List ℕ) (c : ℕ) → withoutReturn (l ++ (c ∷ [])) ≡ cond (eqb c 13) l (l ++ (c ∷ []))
 unfolding withoutReturn
 without-snoc l c = rw (ends-snoc l c, front-snoc l c)
 
 -- a line that ends in a carriage return is the line without it, and that
-with-return : (l : List ℕ) → endsInReturn l ≡ true → l ≡ withoutReturn l ++ (13 ∷ [])
+pub with-return : (l : List ℕ) → endsInReturn l ≡ true → l ≡ withoutReturn l ++ (13 ∷ [])
 unfolding withoutReturn
 with-return [] e = absurd (false≢true e)
 with-return (x ∷ l) e =
@@ -79,7 +79,7 @@ with-return (x ∷ l) e =
     let split = take-suc (x ∷ l) (length (x ∷ l) - 1) 0 (omega arith) in
     rw e (sym (take-all (suc (length (x ∷ l) - 1)) (x ∷ l) (omega arith)) ∙ split ∙ ap (λ (c : ℕ). take (length (x ∷ l) - 1) (x ∷ l) ++ (c ∷ [])) last)
 
-no-return : (l : List ℕ) → endsInReturn l ≡ false → withoutReturn l ≡ l
+pub no-return : (l : List ℕ) → endsInReturn l ≡ false → withoutReturn l ≡ l
 unfolding withoutReturn
 no-return l e = rw e
 

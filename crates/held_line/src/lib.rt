@@ -1,6 +1,7 @@
 // A line of input of any length, held in 64 characters so that it is imported as the whole line would be.
-ghost use mathlib.Core.Bool.{cond};
+ghost use mathlib.Core.Bool.{false, cond};
 ghost use mathlib.Core.Path.{_≡_};
+ghost use Prim.Native.Nat.{_≤_};
 ghost use lib.ListN.{length};
 ghost use Rattle.held_line.specs.Held.{isDigit, fullCount, fullBuffer, countAfter, bufferAfter};
 ghost use Rattle.held_line.specs.Lines.{emptyLine, heldPiece, settled, begun};
@@ -75,8 +76,8 @@ pub fn empty_line() -> HeldLine
     }
 }
 
-// Holds a piece more of a line.
-pub fn hold_piece(line: HeldLine, piece: &[u8]) -> HeldLine
+// Holds a piece more of a line, character by character.
+fn hold_each(line: HeldLine, piece: &[u8]) -> HeldLine
     ensures { λ r. ⌜ r ≡ heldPiece line (now (piece .entry)) ⌝ }
 {
     let mut characters = line.characters;
@@ -94,6 +95,37 @@ pub fn hold_piece(line: HeldLine, piece: &[u8]) -> HeldLine
         count: count,
         returned: returned,
     }
+}
+
+// The same by one copy: the piece is the first of its line, and short.
+fn hold_short(line: HeldLine, piece: &[u8]) -> HeldLine
+    requires { ⌜ (line .count ≡ 0) × (line .returned ≡ false) × (length (now piece) ≤ 64) ⌝ }
+    ensures { λ r. ⌜ r ≡ heldPiece line (now (piece .entry)) ⌝ }
+{
+    let length = piece.len();
+    if length == 0 {
+        return line;
+    }
+    let last = length - 1;
+    let returned = piece[last] == b'\r';
+    let count = if returned { last } else { length };
+    let mut characters = line.characters;
+    octet_parts::copy(&mut characters, 0, piece, 0, count);
+    HeldLine {
+        characters: characters,
+        count: count,
+        returned: returned,
+    }
+}
+
+// Holds a piece more of a line.
+pub fn hold_piece(line: HeldLine, piece: &[u8]) -> HeldLine
+    ensures { λ r. ⌜ r ≡ heldPiece line (now (piece .entry)) ⌝ }
+{
+    if (line.count == 0) & (!line.returned & (piece.len() <= 64)) {
+        return hold_short(line, piece);
+    }
+    hold_each(line, piece)
 }
 
 // At the end of input a carriage return is part of the line.
