@@ -45,7 +45,7 @@ unfoldable pub heldPiece : HeldLine → List ℕ → HeldLine
 heldPiece l [] = l
 heldPiece l (c ∷ piece) = heldPiece (heldCharacter l c) piece
 
--- whether the line has characters
+-- not 0 where the line so far has characters
 abbrev pub begun : HeldLine → ℕ
 begun l = cond (l .returned) 1 (l .count)
 

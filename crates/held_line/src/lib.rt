@@ -141,7 +141,7 @@ pub fn settle(line: HeldLine) -> HeldLine
     }
 }
 
-// Characters of the line so far: not 0 where it has any.
+// Not 0 where the line so far has characters.
 pub fn begun(line: HeldLine) -> usize
     ensures { λ r. ⌜ r ≡ begun line ⌝ }
 {

@@ -54,8 +54,8 @@ program = record { State = State; streams = λ σ. σ .progress .streams; Turn =
 abbrev pub first : Progress → List ℕ → List ℕ → Start program
 first p input output = record { state = stateOf p input (replicate 11752 0) output; input = input; text = headerLine }
 
--- what the program has done: a run to the end of the input, or of 2^64 - 1 turns, then the rows after the last line, that left the buffers as they are; and
--- nothing waits any more. A program that takes no turn must make up the system's answer, as that nothing was read: that no contract can rule out.
+-- what the program has done: a run for as long as pieces are found, or of 2^64 - 1 turns, then, where the input's end was met, the rows after the last line,
+-- that left the buffers as they are; and nothing waits any more. A program that takes no turn must make up the system's answer, as that nothing was read: that no contract can rule out.
 pub record Ran (input output : List ℕ) (r : Progress) (inputAfter areaAfter outputAfter : List ℕ) : Type 0 where
   pub start : Progress
   pub outputAtStart : List ℕ

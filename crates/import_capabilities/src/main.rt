@@ -194,7 +194,7 @@ fn put_end(progress: Progress, output: &mut [u8]) -> Streams
     streams
 }
 
-// Takes turns to the end of the input, and writes out what still waits. What it then has is handed back so that the contract can speak of it.
+// Takes turns for as long as pieces are found, and writes out what still waits. What it then has is handed back so that the contract can speak of it.
 fn run(descriptor: i32, input: &mut [u8], area: &mut [u8], output: &mut [u8]) -> Progress
     requires { ⌜ (now area ≡ replicate 11752 0) × (315 ≤ length (now output)) ⌝ }
     ensures { λ r. ⌜ Ran (now (input .entry)) (now (output .entry)) r (now (input .exit)) (now (area .exit)) (now (output .exit)) ⌝ }

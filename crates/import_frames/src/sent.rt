@@ -7,6 +7,7 @@ use super::outcome_of;
 use import_tray::Report;
 use import_tray::Step;
 use import_tray::Tray;
+use import_tray::refuse;
 use link_records::Received;
 use links::Found;
 use links::Link;
@@ -19,8 +20,6 @@ use transactions::TransactionNumber;
 ghost use mathlib.Core.Path.{_≡_};
 ghost use Prim.Native.Nat.{_<_};
 ghost use Rattle.pb_adv.specs.Frame.{refusalNumber};
-ghost use Rattle.stock_table.specs.Rows.{refusedRow};
-ghost use Rattle.import_tray.specs.Trays.{rowAfter};
 ghost use Rattle.import_frames.specs.Origins.{socketAt, FoundWithin};
 ghost use Rattle.import_frames.specs.Sent.{sendsNext, sentAt, closedAt, sentOf, localStep, sentBy, sentStep};
 
@@ -95,15 +94,6 @@ fn sent_of(links: [Link; 8], found: Found, parsed: Parsed) -> Asked
         Parsed::Close { id: _, reason: _ } => closed_at(found),
         Parsed::Refused(refusal) => Asked::Refused(number_of(refusal)),
         _ => Asked::Nothing,
-    }
-}
-
-fn refuse(tray: Tray, line: u64, origin: Origin, refusal: u8) -> Step
-    ensures { λ r. ⌜ r ≡ rowAfter tray (refusedRow line origin refusal) ⌝ }
-{
-    Step {
-        tray: tray,
-        report: Report::Row(stock_table::refused_row(line, origin, refusal)),
     }
 }
 

@@ -32,10 +32,10 @@ use Rattle.import_lines.specs.declared.Opening.the-variants as G
 abbrev pub isFrame : List ℕ → Bool
 isFrame line = isHexadecimal line && leb 2 (length line)
 
--- "`>` and an even number of hexadecimal digits, two or more"
 abbrev pub isMarkedSent : List ℕ → Bool
 isMarkedSent line = eqb (getD line 0 0) 62
 
+-- "`>` and an even number of hexadecimal digits, two or more"
 abbrev pub isSent : List ℕ → Bool
 isSent line = isMarkedSent line && isFrame (drop 1 line)
 

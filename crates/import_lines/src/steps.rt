@@ -7,6 +7,7 @@ use import_tray::Report;
 use import_tray::Step;
 use import_tray::Stock;
 use import_tray::Tray;
+use import_tray::refuse;
 use line_fields::Field;
 use octets::octet_at;
 use stock_table::Origin;
@@ -15,18 +16,7 @@ ghost use mathlib.Core.Bool.{true};
 ghost use mathlib.Core.Path.{_≡_};
 ghost use Prim.Native.Nat.{_≤_};
 ghost use lib.ListN.{length, take};
-ghost use Rattle.stock_table.specs.Rows.{refusedRow};
-ghost use Rattle.import_tray.specs.Trays.{rowAfter};
 ghost use Rattle.import_lines.specs.Lines.{isMarkedSent, openedBy, openedStep, wrongLine, plainStep, otherStep, sentLine, unheardStep, lineStep, lineArea, heldFrame};
-
-fn refuse(tray: Tray, line: u64, origin: Origin, refusal: u8) -> Step
-    ensures { λ r. ⌜ r ≡ rowAfter tray (refusedRow line origin refusal) ⌝ }
-{
-    Step {
-        tray: tray,
-        report: Report::Row(stock_table::refused_row(line, origin, refusal)),
-    }
-}
 
 // An argument that is wrong: a line of no form.
 fn refuse_line(tray: Tray, line: u64) -> Step

@@ -9,3 +9,5 @@ pub mod AtOnce
 pub mod Waiting
 pub mod Opening
 pub mod Answers
+pub mod Counting
+pub mod Shown

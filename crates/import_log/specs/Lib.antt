@@ -1,3 +1,5 @@
 pub mod Logs
 pub mod Records
 pub mod Answers
+pub mod Counting
+pub mod Shown

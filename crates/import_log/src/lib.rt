@@ -6,7 +6,7 @@ ghost use Rattle.import_log.specs.Logs.{nextNumber, newLog, taken, areaA
 
 pub struct Log {
     pub tray: Tray,
-    // The number of the last line, from 1.
+    // How many lines there were.
     pub lines: u64,
 }
 

@@ -49,7 +49,7 @@ stationOf tray area = record { links = tray .links; area = area }
 abbrev pub stepTo : Tray → Report → Step
 stepTo tray report = record { tray = tray; report = report }
 
--- nothing but a row
+-- a row is written
 abbrev pub rowAfter : Tray → Row → Step
 rowAfter tray row = stepTo tray (R.Row row)
 

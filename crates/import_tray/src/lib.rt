@@ -2,12 +2,14 @@
 use line_fields::Word;
 use links::Link;
 use provisioning::Capabilities;
+use stock_table::Origin;
 use stock_table::Row;
 use transactions::Socket;
 ghost use mathlib.Core.Path.{_≡_};
 ghost use lib.ListN.{getD, set};
 ghost use Rattle.import_tray.specs.declared.Stock.the-variants.{Unopened};
-ghost use Rattle.import_tray.specs.Trays.{stockOf, newTray, stockAt, withLinks, withStock, lastReport};
+ghost use Rattle.import_tray.specs.Trays.{stockOf, newTray, stockAt, withLinks, withStock, rowAfter, lastReport};
+ghost use Rattle.stock_table.specs.Rows.{refusedRow};
 
 // What the table has of a socket: it was never opened, it has no record since its latest opening, or that record.
 pub enum Stock {
@@ -103,6 +105,16 @@ pub fn with_stock(tray: Tray, place: usize, stock: Stock) -> Tray
     Tray {
         links: links,
         stock: with_one(all, place, stock),
+    }
+}
+
+// A refusal, by document 01's number, is told; the tray stays.
+pub fn refuse(tray: Tray, line: u64, origin: Origin, refusal: u8) -> Step
+    ensures { λ r. ⌜ r ≡ rowAfter tray (refusedRow line origin refusal) ⌝ }
+{
+    Step {
+        tray: tray,
+        report: Report::Row(stock_table::refused_row(line, origin, refusal)),
     }
 }
 

@@ -28,7 +28,7 @@ use Rattle.stock_table.specs.declared.Origin.{Origin}
 use Rattle.stock_table.specs.declared.Stated.the-variants as S
 use Rattle.stock_table.specs.Rows.{originOf, unknown, rowOf, recordRow, wordOf}
 use Rattle.stock_table.specs.Columns.{columns, rowFields, headerLine, rowLine}
-use Rattle.stock_table.specs.Promises.{cutFrom, cutAtCommas, under, nameOf, SameColumns, UnderColumn, RecordColumns, RecordsInPlace, NoteColumns, NotesInPlace, Source, rowFor, RowsLoseNothing}
+use Rattle.stock_table.specs.Promises.{isOneLine, RowsAreLines, cutFrom, cutAtCommas, under, nameOf, SameColumns, UnderColumn, RecordColumns, RecordsInPlace, NoteColumns, NotesInPlace, Source, rowFor, RowsLoseNothing}
 
 -- ---- texts with no comma and no newline
 
@@ -59,6 +59,20 @@ cut-line t [] p = cut-text [] t (10 ∷ []) (both-hold {a = isPlain t} p .0)
 cut-line t (u ∷ ts) p =
     let h = both-hold {a = isPlain t} p in
     cut-text [] t (44 ∷ lineOf (u ∷ ts)) (h .0) ∙ ap (λ (l : List (List ℕ)). t ∷ l) (cut-line u ts (h .1))
+
+-- and it is one line
+one-text : (t rest : List ℕ) → isPlain t ≡ true → isOneLine (t ++ rest) ≡ isOneLine rest
+one-text [] rest p = refl
+one-text (c ∷ t) rest p =
+    let h = both-hold {a = not (eqb c 10)} p in
+    rw (not-true (eqb c 10) (h .0)) (one-text t rest (both-hold {a = not (eqb c 44)} (h .1) .1))
+
+one-line : (t : List ℕ) (ts : List (List ℕ)) → allPlain (t ∷ ts) ≡ true → isOneLine (lineOf (t ∷ ts)) ≡ true
+unfolding lineOf
+one-line t [] p = one-text t (10 ∷ []) (both-hold {a = isPlain t} p .0)
+one-line t (u ∷ ts) p =
+    let h = both-hold {a = isPlain t} p in
+    one-text t (44 ∷ lineOf (u ∷ ts)) (h .0) ∙ one-line u ts (h .1)
 
 -- ---- the texts of fields
 
@@ -149,6 +163,10 @@ header-cut = cut-line _ _ refl
 row-cut : (row : Row) → cutAtCommas (rowLine row) ≡ map fieldText (rowFields row)
 unfolding rowLine
 row-cut row = cut-line _ _ (plain-fields (rowFields row))
+
+pub rows-are-lines : RowsAreLines
+unfolding headerLine rowLine
+rows-are-lines = (one-line _ _ refl, λ row. one-line _ _ (plain-fields (rowFields row)))
 
 pub same-columns : SameColumns
 same-columns = (ap length header-cut, λ row. ap length (row-cut row))

@@ -2,7 +2,7 @@
 -- Quotations are of `docs/IMPORT.md`.
 use Prim.Native.Nat.{ℕ, zero, suc, _<_}
 use Prim.Native.String.{String}
-use mathlib.Core.Bool.{cond}
+use mathlib.Core.Bool.{Bool, true, false, cond}
 use mathlib.Core.List.{List, [], _∷_, _++_, map}
 use mathlib.Core.Path.{_≡_}
 use lib.Dec.{eqb}
@@ -23,6 +23,16 @@ use Rattle.stock_table.specs.declared.Origin.{Origin}
 use Rattle.stock_table.specs.declared.Row.{Row}
 use Rattle.stock_table.specs.Rows.{originOf, unknown, recordRow, messageRow, refusedRow, socketRow, endRow}
 use Rattle.stock_table.specs.Columns.{columns, headerLine, rowLine}
+
+-- ---- the header and every row are one line each
+
+-- the first newline is the last character
+abbrev pub isOneLine : List ℕ → Bool
+isOneLine [] = false
+isOneLine (c ∷ text) = let rest = isOneLine text in cond (eqb c 10) (eqb (length text) 0) rest
+
+abbrev pub RowsAreLines : Type 0
+RowsAreLines = (isOneLine headerLine ≡ true) × ((row : Row) → isOneLine (rowLine row) ≡ true)
 
 -- ---- a line cut at its commas
 

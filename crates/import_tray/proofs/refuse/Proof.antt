@@ -1,6 +1,6 @@
 use borrow.Author.Needs.{needs}
-use Rattle.import_frames.proofs.sent.refuse.Statement.{statement}
-use Rattle.import_frames.proofs.sent.refuse.Tie as tie
+use Rattle.import_tray.proofs.refuse.Statement.{statement}
+use Rattle.import_tray.proofs.refuse.Tie as tie
 
 refused-row-requires : tie.Need-refused-row-requires
 refused-row-requires c κs = search needs
