@@ -17,7 +17,7 @@ ghost use Rattle.octets.specs.Writing.{written, outputAfter};
 ghost use Rattle.held_line.specs.Lines.{heldText};
 ghost use Rattle.import_tray.specs.Trays.{reportText, lastReport};
 ghost use Rattle.import_log.specs.Logs.{taken, areaAfter};
-ghost use Rattle.import_capabilities.specs.Turns.{waitingWith, RowWaits, wholeLine, PieceHeld, LineEnded, Turn, SocketsPut, LastPut, EndPut};
+ghost use Rattle.import_capabilities.specs.Turns.{waitingWith, RowWaits, wholeLine, Turn, SocketsPut, LastPut, EndPut};
 ghost use Rattle.import_capabilities.specs.Runs.{Starts, Ran};
 
 // How far the program has come.
@@ -61,21 +61,6 @@ fn put_report(before: Streams, report: Report, output: &mut [u8]) -> Streams
     waits(streams, answer, output)
 }
 
-// Reads on as far as a line's end, or the end of what is there.
-fn read_on(progress: Progress, descriptor: i32, input: &mut [u8], output: &[u8]) -> Progress
-    ensures { λ r. ⌜ PieceHeld progress (now (input .entry)) (now (output .entry)) r (now (input .exit)) ⌝ }
-{
-    let streams = lines::next_piece(progress.streams, descriptor, input, output);
-    let from = streams.from;
-    let to = streams.to;
-    let log = progress.log;
-    Progress {
-        streams: streams,
-        line: held_line::hold_piece(progress.line, &input[from..to]),
-        log: log,
-    }
-}
-
 fn smaller(a: usize, b: usize) -> usize
     ensures { λ r. ⌜ r ≡ min a b ⌝ }
 {
@@ -102,22 +87,7 @@ fn whole_line(streams: Streams, line: HeldLine) -> HeldLine
     held_line::settle(line)
 }
 
-// Ends the line: its row waits in the output.
-fn end_line(progress: Progress, area: &mut [u8], output: &mut [u8]) -> Progress
-    requires { ⌜ 315 ≤ length (now output) ⌝ }
-    ensures { λ r. ⌜ LineEnded progress (now (area .entry)) (now (output .entry)) r (now (area .exit)) (now (output .exit)) ⌝ }
-{
-    let line = whole_line(progress.streams, progress.line);
-    let taken = take_held(progress.log, area, line);
-    let log = taken.log;
-    let report = taken.report;
-    Progress {
-        streams: put_report(progress.streams, report, output),
-        line: held_line::empty_line(),
-        log: log,
-    }
-}
-
+// Reads on as far as a line's end, or the end of what is there. Where the line is then whole, it is taken, and its row waits in the output.
 fn take_turn(
     progress: Progress,
     descriptor: i32,
@@ -128,12 +98,28 @@ fn take_turn(
     requires { ⌜ 315 ≤ length (now output) ⌝ }
     ensures { λ r. ⌜ Turn progress (now (input .entry)) (now (area .entry)) (now (output .entry)) r (now (input .exit)) (now (area .exit)) (now (output .exit)) ⌝ }
 {
-    let read = read_on(progress, descriptor, input, output);
-    let begun = held_line::begun(read.line);
-    if lines::is_whole(read.streams, begun) {
-        return end_line(read, area, output);
+    let streams = lines::next_piece(progress.streams, descriptor, input, output);
+    let from = streams.from;
+    let to = streams.to;
+    let line = held_line::hold_piece(progress.line, &input[from..to]);
+    let begun = held_line::begun(line);
+    if lines::is_whole(streams, begun) {
+        let whole = whole_line(streams, line);
+        let taken = take_held(progress.log, area, whole);
+        let log = taken.log;
+        let report = taken.report;
+        return Progress {
+            streams: put_report(streams, report, output),
+            line: held_line::empty_line(),
+            log: log,
+        };
     }
-    read
+    let log = progress.log;
+    Progress {
+        streams: streams,
+        line: line,
+        log: log,
+    }
 }
 
 // The header is the first row, always.
