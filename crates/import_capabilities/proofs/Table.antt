@@ -226,6 +226,9 @@ module _ (input output : List ℕ) (room : 315 ≤ length output) (r : Progress)
   over-is : ran .last .streams .over ≡ ran .run .reading .streams .over
   over-is = ap (λ (s : Streams). s .over) (last-agrees .streams)
 
+  found-is : ran .last .streams .found ≡ ran .run .reading .streams .found
+  found-is = ap (λ (s : Streams). s .found) (last-agrees .streams)
+
   log-is : ran .last .log ≡ afterAll atFirst whole .log
   log-is = ap (λ (m : Import). m .log) (last-agrees .imported)
 
@@ -244,8 +247,13 @@ pub short-table : ShortTable
 short-table input output room r inputAfter areaAtEnd outputAfter ran short =
     let a = last-agrees input output room r inputAfter areaAtEnd outputAfter ran in
     let lines = ran .run .reading .whole in
-    let e = ran .end .short short in (
-      λ more₁. let b = lines-begun withoutReturn input (ran .run .reading) (a .follows) (sym (over-is input output room r inputAfter areaAtEnd outputAfter ran) ∙ short) more₁ in
+    let e = ran .end .short short in
+    let begun-lines =
+    lines-begun withoutReturn input (ran .run .reading) (a .follows) (sym (over-is input output room r inputAfter areaAtEnd outputAfter ran) ∙ short) in
+    record {
+      rows = λ n. a .put ∙ ap putFor (begun-lines .lines (sym (found-is input output room r inputAfter areaAtEnd outputAfter ran) ∙ n));
+      front = λ more₁.
+          let b = begun-lines .front more₁ in
           let tail = lastText (afterAll atFirst (lines ++ b .0) .log) in
           let rest = textFrom (afterAll atFirst lines) (b .0) in (
             rest ++ tail,
@@ -254,6 +262,6 @@ short-table input output room r inputAfter areaAtEnd outputAfter ran short =
                 ∙ ap (λ (l : List ℕ). headerLine ++ l) (append-assoc (textFrom atFirst lines) rest tail)
                 ∙ sym (append-assoc headerLine (textFrom atFirst lines) (rest ++ tail))
                 ∙ ap (λ (l : List ℕ). l ++ (rest ++ tail)) (sym (a .put)),
-          ),
-      rw (e .0, e .1) (a .waits),
-    )
+          );
+      waits = rw (e .0, e .1) (a .waits);
+    }

@@ -7,9 +7,9 @@ use mathlib.Core.Path.{_≡_}
 use lib.ListN.{length}
 use Rattle.octets.specs.Cut.{joined}
 use Rattle.lines.specs.Streams.{EndWaits}
-use Rattle.lines.specs.Lines.{linesBy}
+use Rattle.lines.specs.Lines.{linesBy, endedLines}
 use Rattle.stock_table.specs.Columns.{headerLine}
-use Rattle.import_log.specs.Logs.{lastText, rowsOf}
+use Rattle.import_log.specs.Logs.{textFrom, atFirst, lastText, rowsOf}
 use Rattle.held_line.specs.Lines.{withoutReturn}
 use Rattle.import_capabilities.specs.declared.Progress.{Progress}
 use Rattle.import_capabilities.specs.Runs.{Ran}
@@ -38,10 +38,18 @@ WholeTable =
     → (ran : Ran input output r inputAfter areaAfter outputAfter) → ran .last .streams .over ≡ true
     → (putIn ran ≡ tableOf (readIn ran)) × EndWaits (putIn ran) (ran .streams) outputAfter
 
--- a table that was cut short, where the input could not be read or the output not be written, is the front of the table of whatever would have followed, up
--- to the rows of the lines that were whole; none of the rows after the last line is put
+-- a table that was cut short, the end of the input not met, as where the input could not be read or the output not be written
+pub record CutShort {input output : List ℕ} {r : Progress} {inputAfter areaAfter outputAfter : List ℕ}
+    (ran : Ran input output r inputAfter areaAfter outputAfter) : Type 0 where
+  -- where nothing more was found (else the run had 2^64 - 1 turns), the text put is the header and the rows of those lines of all that was read that a newline
+  -- ends; none of the rows after the last line is put
+  pub rows : ran .last .streams .found ≡ false → ran .run .text ≡ headerLine ++ textFrom atFirst (endedLines withoutReturn (readIn ran))
+  -- it is always the front of the table of whatever would have followed
+  pub front : (more : List ℕ) → (rest : List ℕ) × (tableOf (readIn ran ++ more) ≡ ran .run .text ++ rest)
+  -- what waited before the last writing out is its end
+  pub waits : EndWaits (ran .run .text) (ran .streams) outputAfter
+
 abbrev pub ShortTable : Type 0
 ShortTable =
     (input output : List ℕ) → 315 ≤ length output → (r : Progress) (inputAfter areaAfter outputAfter : List ℕ)
-    → (ran : Ran input output r inputAfter areaAfter outputAfter) → ran .last .streams .over ≡ false
-    → ((more : List ℕ) → (rest : List ℕ) × (tableOf (readIn ran ++ more) ≡ ran .run .text ++ rest)) × EndWaits (ran .run .text) (ran .streams) outputAfter
+    → (ran : Ran input output r inputAfter areaAfter outputAfter) → ran .last .streams .over ≡ false → CutShort ran

@@ -7,8 +7,8 @@ use mathlib.Core.Bool.{Bool, true, false, cond, _||_, _&&_, false≢true}
 use mathlib.Core.List.{List, [], _∷_, _++_, append-assoc, append-nil}
 use mathlib.Core.Path.{_≡_, refl, sym, ap, _∙_, subst}
 use lib.Dec.{leb, ltb, eqb}
-use lib.ListN.{length, take, drop, take-append-drop, drop-of-length-le, length-drop}
-use lib.Seq.{length-take-le, take-all, drop-drop}
+use lib.ListN.{length, take, drop, take-append-drop, drop-of-length-le, length-append, length-drop}
+use lib.Seq.{length-take-le, take-all, take-at, drop-drop}
 use borrow.Author.Tests.{eqb-true, ltb-true, ltb-false, lt-ltb, le-ltb, le-leb}
 use Rattle.octets.specs.Parts.{part}
 use Rattle.octets.specs.Cut.{joined}
@@ -17,7 +17,7 @@ use Rattle.octets.proofs.Parts.{part-take}
 use Rattle.octets.proofs.Cut.{joined-append}
 use Rattle.lines.specs.declared.Streams.{Streams}
 use Rattle.lines.specs.Streams.{newlineIn, newlineFrom, pieceFrom, pieceIn, nextPlace, withWaiting, isLeft, withOver, Found, isWhole}
-use Rattle.lines.specs.Lines.{linesFrom, linesBy, asItStands, Reading, oneIf, readOn, atStart, Follows, LinesFound, LinesBegun}
+use Rattle.lines.specs.Lines.{linesFrom, linesBy, endedFrom, endedLines, asItStands, Reading, oneIf, readOn, atStart, Follows, LinesFound, LinesBegun}
 use Rattle.lines.specs.Lines.Follows.{begins, goes}
 use Rattle.lines.proofs.Laws.{left-fits}
 
@@ -55,6 +55,27 @@ module _ (ended : List ℕ → List ℕ) where
     -- a line that goes on
     line-goes : length t ≤ newlineIn t → linesFrom ended held (t ++ more) ≡ linesFrom ended (held ++ take (newlineIn t) t) more
     line-goes h = ap (λ (l : List ℕ). linesFrom ended held (l ++ more)) (sym (take-all (newlineIn t) t h)) ∙ front-held held t more
+
+-- ---- the lines that a newline ends
+
+-- what stands behind the last newline
+abbrev unfinished : List ℕ → List ℕ → List ℕ
+unfinished held [] = held
+unfinished held (c ∷ text) = cond (eqb c 10) (unfinished [] text) (unfinished (held ++ (c ∷ [])) text)
+
+-- they come first, whatever comes behind
+ended-first : (ended : List ℕ → List ℕ) (held text more : List ℕ)
+    → linesFrom ended held (text ++ more) ≡ endedFrom ended held text ++ linesFrom ended (unfinished held text) more
+ended-first ended held [] more = refl
+ended-first ended held (c ∷ text) more =
+    cases (eqb c 10) (λ e. rw e (ap (λ (l : List (List ℕ)). ended held ∷ l) (ended-first ended [] text more)))
+    (λ e. rw e (ended-first ended (held ++ (c ∷ [])) text more))
+
+-- lists that are one list with an element behind each
+same-front : (a b : List (List ℕ)) (x y : List ℕ) → a ++ (x ∷ []) ≡ b ++ (y ∷ []) → a ≡ b
+same-front a b x y e =
+    let long = sym (length-append a (x ∷ [])) ∙ ap length e ∙ length-append b (y ∷ []) in
+    sym (take-at a (x ∷ []) (length a) refl) ∙ ap (take (length a)) e ∙ take-at b (y ∷ []) (length a) (omega (arith, long))
 
 -- ---- a piece of a buffer
 
@@ -105,6 +126,7 @@ module _ (s : Streams) (input : List ℕ) (from filled : ℕ) (fits : filled ≤
 -- before the input's end: the lines of what was read, with anything more behind it, are the whole ones and those from here on
 record Goes (ended : List ℕ → List ℕ) (x : Reading) : Type 0 where
   fits : x .streams .filled ≤ length (x .input)
+  none : x .streams .found ≡ false → left (x .streams) (x .input) ≡ []
   lines : (more : List ℕ)
       → linesBy ended (joined (x .read) ++ more) ≡ x .whole ++ linesFrom ended (x .held) (left (x .streams) (x .input) ++ more)
 
@@ -125,6 +147,7 @@ module _ (ended : List ℕ → List ℕ) (x : Reading) (waiting : ℕ) (taken : 
         found-open = λ _. refl;
         goesOn = λ _. record {
           fits = p .0;
+          none = λ n. absurd (false≢true (sym n ∙ lt-ltb (nextPlace s) (s .filled) (p .2)));
           lines = λ more.
               rw (e, append-nil (x .read))
               (g .lines more
@@ -153,6 +176,8 @@ module _ (ended : List ℕ → List ℕ) (x : Reading) (waiting : ℕ) (taken : 
       found-open = λ _. refl;
       goesOn = λ _. record {
         fits = fits;
+        none = λ n. let z : filled ≡ 0 = omega (arith, ltb-false 0 filled n) in
+            drop-of-length-le (take filled after) {i = nextPlace (piece false)} (omega (arith, length-take-le filled after fits));
         lines = λ more.
             rw (e, all-read more)
             ((rw (nothing-left w e) at (g .lines (take filled after ++ more)))
@@ -204,7 +229,7 @@ module _ (ended : List ℕ → List ℕ) (input : List ℕ) where
   keeps : (x : Reading) → Follows ended input x → Kept ended x
   keeps x begins = record {
     found-open = λ _. refl;
-    goesOn = λ _. record { fits = omega arith; lines = λ more. refl };
+    goesOn = λ _. record { fits = omega arith; none = λ n. absurd (false≢true (sym n)); lines = λ more. refl };
     ends = λ n. absurd (false≢true n);
   }
   keeps x (goes {x = y} f found t same output w next after c) =
@@ -215,7 +240,15 @@ pub lines-found : LinesFound
 lines-found ended input x f over = keeps ended input x f .ends over
 
 pub lines-begun : LinesBegun
-lines-begun ended input x f n more = (_, keeps ended input x f .goesOn n .lines more)
+lines-begun ended input x f n =
+    let g = keeps ended input x f .goesOn n in
+    let text = joined (x .read) in
+    record {
+      lines = λ e.
+          same-front (x .whole) (endedLines ended text) (ended (x .held)) (ended (unfinished [] text))
+          (sym (rw (g .none e) at (g .lines (10 ∷ []))) ∙ ended-first ended [] text (10 ∷ []));
+      front = λ more. (_, g .lines more);
+    }
 
 -- a line that stays what it is, whatever ended it
 pub line-stands : (ends : Bool) (line : List ℕ) → cond ends (asItStands line) line ≡ line

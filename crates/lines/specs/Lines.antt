@@ -18,6 +18,14 @@ linesFrom ended held (c ∷ text) = cond (eqb c 10) (ended held ∷ linesFrom en
 abbrev pub linesBy : (List ℕ → List ℕ) → List ℕ → List (List ℕ)
 linesBy ended text = linesFrom ended [] text
 
+-- the lines of a text that a newline ends, of which some characters came before: nothing behind the last newline is of them
+abbrev pub endedFrom : (List ℕ → List ℕ) → List ℕ → List ℕ → List (List ℕ)
+endedFrom ended held [] = []
+endedFrom ended held (c ∷ text) = cond (eqb c 10) (ended held ∷ endedFrom ended [] text) (endedFrom ended (held ++ (c ∷ [])) text)
+
+abbrev pub endedLines : (List ℕ → List ℕ) → List ℕ → List (List ℕ)
+endedLines ended text = endedFrom ended [] text
+
 -- a line stays what it is
 abbrev pub asItStands : List ℕ → List ℕ
 asItStands line = line
@@ -68,8 +76,12 @@ abbrev pub LinesFound : Type 0
 LinesFound =
     (ended : List ℕ → List ℕ) (input : List ℕ) (x : Reading) → Follows ended input x → x .streams .over ≡ true → x .whole ≡ linesBy ended (joined (x .read))
 
--- before it, as where a read failed, they are the first lines of all that was read with whatever would have come behind it
+-- a reading that has not met the end of the input, as where a read failed
+pub record Begun (ended : List ℕ → List ℕ) (x : Reading) : Type 0 where
+  -- where nothing more was found, the whole lines are those lines of all that was read that a newline ends
+  pub lines : x .streams .found ≡ false → x .whole ≡ endedLines ended (joined (x .read))
+  -- they are always the first lines of all that was read with whatever would have come behind it
+  pub front : (more : List ℕ) → (rest : List (List ℕ)) × (linesBy ended (joined (x .read) ++ more) ≡ x .whole ++ rest)
+
 abbrev pub LinesBegun : Type 0
-LinesBegun =
-    (ended : List ℕ → List ℕ) (input : List ℕ) (x : Reading) → Follows ended input x → x .streams .over ≡ false
-    → (more : List ℕ) → (rest : List (List ℕ)) × (linesBy ended (joined (x .read) ++ more) ≡ x .whole ++ rest)
+LinesBegun = (ended : List ℕ → List ℕ) (input : List ℕ) (x : Reading) → Follows ended input x → x .streams .over ≡ false → Begun ended x
