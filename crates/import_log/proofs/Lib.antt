@@ -11,3 +11,5 @@ pub mod Opening
 pub mod Answers
 pub mod Counting
 pub mod Shown
+pub mod Sockets
+pub mod Refusals

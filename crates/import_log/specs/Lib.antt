@@ -3,3 +3,5 @@ pub mod Records
 pub mod Answers
 pub mod Counting
 pub mod Shown
+pub mod Sockets
+pub mod Refusals
