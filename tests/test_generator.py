@@ -50,7 +50,7 @@ class Logs(unittest.TestCase):
         self.assertGreater(len(log), 200000)
         self.assertTrue(log.endswith(b"\r"))
         rows = [row.split(",") for row in answer_log(log).decode("ascii").split("\n")[:-1]]
-        self.assertEqual([row[2] for row in rows if row[0] == "unopened"], ["6", "8"])
+        self.assertEqual([row[2] for row in rows if row[0] == "unopened"], ["6"])
         self.assertEqual({len(row) for row in rows}, {15})
 
     def test_random_logs_meet_everything(self):

@@ -1,7 +1,6 @@
 """The line program and the import program, over whole inputs."""
 import unittest
 
-from model.generator.example_tray import example_log
 from model.import_program import answer_log
 from model.line_program import answer_lines
 from model.samples import SAMPLES
@@ -83,14 +82,6 @@ class ImportProgram(unittest.TestCase):
             "message,24,1,0x23AF5850,0x83,,Random,,,,,,,,", "message,29,1,0x23AF5850,0x84,,Complete,,,,,,,,",
             "unopened,,2,,,,,,,,,,,,", "unopened,,3,,,,,,,,,,,,", "unopened,,4,,,,,,,,,,,,", "unopened,,5,,,,,,,,,,,,",
             "unopened,,6,,,,,,,,,,,,", "unopened,,7,,,,,,,,,,,,", "unopened,,8,,,,,,,,,,,,", "end,31,,,,,,,,,,,,,"])
-
-    def test_example(self):
-        """Five records, the two refusals that its comments tell of, and the sockets without a record."""
-        rows = [row.split(",") for row in written(*example_log().decode("ascii").split("\n"))]
-        self.assertEqual(sorted(row[2] for row in rows if row[0] == "record"), list("12345"))
-        self.assertEqual([(row[2], row[5]) for row in rows if row[0] == "refused"], [("5", "8"), ("", "3")])
-        self.assertEqual([(row[0], row[2]) for row in rows if row[0] in ("repeated", "conflict")], [("repeated", "4"), ("conflict", "2")])
-        self.assertEqual([row[0:3:2] for row in rows[-4:]], [["unopened", "6"], ["missing", "7"], ["unopened", "8"], ["end", ""]])
 
 
 if __name__ == "__main__":

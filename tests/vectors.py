@@ -1,11 +1,11 @@
 #!/usr/bin/env python3
-"""The stored input and output of the programs, made by the independent model from fixed seeds.
+"""The stored files that the independent model makes: the programs' input and output from fixed seeds, and the example tray.
 
-usage: tests/vectors.py --check [CRATE..]      whether the stored files are what the model makes, and every case is met
-       tests/vectors.py --write [CRATE..]      writes them
-       tests/vectors.py --coverage [CRATE..]   how often the stored script and log meet each answer, row, refusal and case
+usage: tests/vectors.py --check [NAME..]      whether the stored files are what the model makes, and every case is met
+       tests/vectors.py --write [NAME..]      writes them
+       tests/vectors.py --coverage [NAME..]   how often the stored script and log meet each answer, row, refusal and case
 
-CRATE is replay, segment_lines or import_capabilities; without any, those whose folder exists under crates/.
+NAME is replay, segment_lines, import_capabilities or example; without any, all of them.
 """
 import pathlib
 import sys
@@ -13,74 +13,80 @@ from collections import Counter
 from typing import NamedTuple
 
 from model import coverage, log_coverage
-from model.generator import line_input, scripts, tray_log
+from model.generator import capture, example_tray, line_input, scripts, tray_log
 from model.import_program import answer_log
 from model.line_program import answer_lines
 
-CRATES = pathlib.Path(__file__).resolve().parent.parent / "crates"
+TOP = pathlib.Path(__file__).resolve().parent.parent
 
 
 class Vectors(NamedTuple):
-    """A program's input and output, what the input meets, and what it has to meet."""
-    stdin: bytes
-    stdout: bytes
+    """Files by their path, what an input among them meets, and what it has to meet."""
+    files: dict
     met: Counter = Counter()
     required: tuple = ()
 
 
+def of_program(crate, stdin, stdout):
+    return {"crates/%s/stdin" % crate: stdin, "crates/%s/stdout" % crate: stdout}
+
+
 def replay():
     script = scripts.stored_script()
-    return Vectors(script.text(), script.answer_text(), script.met, scripts.required())
+    return Vectors(of_program("replay", script.text(), script.answer_text()), script.met, scripts.required())
 
 
 def segment_lines():
     text = line_input.stored_input()
-    return Vectors(text, answer_lines(text))
+    return Vectors(of_program("segment_lines", text, answer_lines(text)))
 
 
 def import_capabilities():
     text = tray_log.stored_log()
-    return Vectors(text, answer_log(text), log_coverage.met(text), log_coverage.required())
+    return Vectors(of_program("import_capabilities", text, answer_log(text)), log_coverage.met(text), log_coverage.required())
 
 
-MAKERS = {"replay": replay, "segment_lines": segment_lines, "import_capabilities": import_capabilities}
+def example():
+    """The example tray as a capture, a log and a table; and the packets by which the way from a capture to a log is tested."""
+    tray = example_tray.example_tray()
+    packets, log = capture.capture_and_log(tray)
+    return Vectors({"example/tray.btsnoop": packets, "example/sockets.txt": example_tray.sockets_text(tray.sockets), "example/tray.log": log,
+                    "example/tray.csv": answer_log(log), "tests/samples/packets.btsnoop": capture.packet_forms()})
 
 
-def stored(crate):
-    """The stored input and output; a file that is missing is as one that differs."""
-    files = [CRATES / crate / name for name in ("stdin", "stdout")]
-    return tuple(file.read_bytes() if file.exists() else None for file in files)
+MAKERS = {"replay": replay, "segment_lines": segment_lines, "import_capabilities": import_capabilities, "example": example}
 
 
-def check(crate):
+def stored(path):
+    """The stored file; one that is missing is as one that differs."""
+    return (TOP / path).read_bytes() if (TOP / path).exists() else None
+
+
+def check(name):
     """The complaints, one a line."""
-    made = MAKERS[crate]()
-    complaints = []
-    if stored(crate) != (made.stdin, made.stdout):
-        complaints.append("crates/%s: the stored stdin or stdout is not what tests/vectors.py makes" % crate)
-    missed = coverage.never_met(made.met, made.required)
-    return complaints + ["crates/%s: never met: %s" % (crate, case) for case in missed]
+    made = MAKERS[name]()
+    complaints = ["%s is not what tests/vectors.py makes" % path for path, octets in made.files.items() if stored(path) != octets]
+    return complaints + ["%s: never met: %s" % (name, case) for case in coverage.never_met(made.met, made.required)]
 
 
-def write(crate):
-    made = MAKERS[crate]()
-    (CRATES / crate).mkdir(exist_ok=True)
-    (CRATES / crate / "stdin").write_bytes(made.stdin)
-    (CRATES / crate / "stdout").write_bytes(made.stdout)
+def write(name):
+    for path, octets in MAKERS[name]().files.items():
+        (TOP / path).parent.mkdir(exist_ok=True)
+        (TOP / path).write_bytes(octets)
 
 
 def main(arguments):
-    crates = arguments[1:] or [crate for crate in MAKERS if (CRATES / crate).is_dir()]
-    if not arguments or any(crate not in MAKERS for crate in crates):
+    names = arguments[1:] or list(MAKERS)
+    if not arguments or any(name not in MAKERS for name in names):
         sys.exit(__doc__)
     if arguments[0] == "--check":
-        complaints = [complaint for crate in crates for complaint in check(crate)]
+        complaints = [complaint for name in names for complaint in check(name)]
         sys.exit("\n".join(complaints) if complaints else 0)
     if arguments[0] == "--write":
-        for crate in crates:
-            write(crate)
+        for name in names:
+            write(name)
     elif arguments[0] == "--coverage":
-        for made in [MAKERS[crate]() for crate in crates]:
+        for made in [MAKERS[name]() for name in names]:
             sys.stdout.write(coverage.table(made.met, made.required))
     else:
         sys.exit(__doc__)

@@ -1,104 +1,129 @@
-"""The example log of a tray, kept by a tool that leaves no frame out; its comments tell what happens."""
-from model.frames import ACK, ACKNOWLEDGEMENT, CLOSE, CONTROL, OPEN, cut, frame_octets
+"""The example: a tray of seven modules, one of them silent, from its first opening to its last close; and a tray where all is well."""
+from model.frames import cut
+from model.generator.air import Link, Passage
+from model.generator.chance import Chance
 from model.samples import SAMPLES
-from model.script_line import hexadecimal
 
-# The Link ID of each socket that has a module, and the capabilities of those that answer.
-LINK_IDS = {1: 0x23AF5850, 2: 0x23AF5851, 3: 0x23AF5852, 4: 0x23AF5853, 5: 0x23AF5854, 7: 0x23AF5856}
+SEED = 17
+# The modules' UUIDs differ in their last octet; the UUID and the Link ID of socket 1 are those of the published exchange.
+UUID = bytes.fromhex(SAMPLES["device_uuid"])
+PUBLISHED = int(SAMPLES["link_id"], 16)
 CAPABILITIES = {1: bytes.fromhex("010100010000000000000000"), 2: bytes.fromhex("010200010100000000000000"),
                 3: bytes.fromhex("010100010001000000000000"), 4: bytes.fromhex("010400010101040008020003"),
-                5: bytes.fromhex("010100010000060010000000")}
-OTHER_LINK_ID = 0x5A5A5A5A
-UUID = bytes.fromhex(SAMPLES["device_uuid"])
-# Places in the published exchange.
-START, DEVICE_PUBLIC_KEY, CONFIRMATION, LINK_CLOSE = 6, 10, 12, 24
-# The reasons of a Close; and an Invite, and a Failed message with its code, an invalid format.
+                5: bytes.fromhex("010100010000060010000000"), 6: bytes.fromhex("010300010000000000040001"),
+                7: bytes.fromhex("010200010101000000000000"), 8: bytes.fromhex("010200010001080018000000")}
+EMPTY, SILENT = 6, 7
+# Where Capabilities have the static OOB type, and a frame its message, if that is one segment.
+STATIC_TYPE, MESSAGE = 5, 9
+# The reasons of a Close.
 SUCCESS, TIMEOUT, FAILURE = b"\x00", b"\x01", b"\x02"
-INVITE, FAILED = b"\x00\x00", b"\x09\x02"
+INVITE = b"\x00\x00"
+# The published exchange from its Start on, and the milliseconds that a station waits for an Ack.
+EXCHANGE = [step for step in SAMPLES["steps"][6:] if step["message"]]
+OPENING_TIME = 60000
 
 
-def heard(*frames):
-    return [hexadecimal(frame) for frame in frames]
+def uuid_of(socket):
+    return UUID[:-1] + bytes([UUID[-1] + socket - 1])
 
 
-def sent(*frames):
-    return [">" + digits for digits in heard(*frames)]
+def sockets_text(sockets):
+    """The modules of a tray: each socket with the UUID of its module."""
+    return "".join("%d %s\n" % (socket, uuid_of(socket).hex().upper()) for socket in sockets).encode("ascii")
 
 
-def control(link_id, opcode, octets=b""):
-    return frame_octets(link_id, 0, CONTROL, opcode, octets)
+class Tray:
+    """The links of a tray, opened a tenth of a second one after the other."""
+
+    def __init__(self, seed, sockets):
+        self.chance = Chance(seed)
+        self.sockets = sockets
+        self.passages = []
+
+    def link(self, socket, time):
+        """A link ready to be opened; its Link ID is made by chance, but for that of the published exchange."""
+        link_id = PUBLISHED if socket == 1 else int.from_bytes(self.chance.octets(4), "big")
+        link = Link(self.chance, socket, link_id, time)
+        # One list for all of them.
+        link.passages = self.passages
+        return link
+
+    def asked(self, socket, time=None):
+        """A link that was opened, and whose module was asked for its capabilities."""
+        link = self.link(socket, 100 * socket if time is None else time)
+        link.open(uuid_of(socket))
+        link.ask(0x00, INVITE)
+        return link
+
+    def answered(self, socket, time=None):
+        link = self.asked(socket, time)
+        link.answer(0x80, CAPABILITIES[socket])
+        return link
+
+    def serve(self, socket):
+        """Open, ask, close; the published exchange goes on to its end."""
+        link = self.answered(socket)
+        if socket == 1:
+            for step in EXCHANGE:
+                exchange = link.ask if step["from"] == "provisioner" else link.answer
+                exchange(int(step["number"], 16), bytes.fromhex(step["message"]))
+        link.close(True, SUCCESS if socket == 1 else FAILURE)
+
+    def serve_twice_answered(self, socket, second):
+        """A module that sends a second Capabilities message."""
+        link = self.answered(socket)
+        link.wait(200)
+        link.answer(0x81, second)
+        link.close(True, FAILURE)
+
+    def serve_closing(self, socket):
+        """A module that closes its link after its answer, and is opened again."""
+        link = self.answered(socket)
+        link.close(False, FAILURE)
+        self.answered(socket, link.time + 300).close(True, FAILURE)
+
+    def serve_damaged(self, socket):
+        """A bit of the Capabilities message, in the number of elements, turned over on its way the first time."""
+        link = self.asked(socket)
+        damaged = bytearray(cut(link.link_id, 0x80, CAPABILITIES[socket])[0])
+        damaged[MESSAGE + 1] ^= 0x04
+        link.answer_damaged(0x80, CAPABILITIES[socket], bytes(damaged))
+        link.close(True, FAILURE)
+
+    def serve_silent(self, socket):
+        link = self.link(socket, 100 * socket)
+        link.open(uuid_of(socket), answered=False)
+        link.wait(OPENING_TIME)
+        link.close(True, TIMEOUT)
+
+    def hear_next_tray(self, time):
+        """A frame of a link that is none of the tray's."""
+        link_id = int.from_bytes(self.chance.octets(4), "big")
+        self.passages.append(Passage(time, False, 0, cut(link_id, 0x80, CAPABILITIES[1])[0]))
+
+    def in_time(self):
+        """All passages by their time; at the same time, a socket after the other."""
+        return sorted(self.passages, key=lambda passage: (passage.time, passage.socket))
 
 
-def acknowledgement(link_id, number):
-    return frame_octets(link_id, number, ACKNOWLEDGEMENT, 0, b"")
+def example_tray():
+    tray = Tray(SEED, [socket for socket in CAPABILITIES if socket != EMPTY])
+    other_static = bytearray(CAPABILITIES[2])
+    other_static[STATIC_TYPE] ^= 1
+    tray.serve(1)
+    tray.serve_twice_answered(2, bytes(other_static))
+    tray.serve_closing(3)
+    tray.serve_twice_answered(4, CAPABILITIES[4])
+    tray.serve_damaged(5)
+    tray.serve_silent(SILENT)
+    tray.serve(8)
+    tray.hear_next_tray(1000)
+    return tray
 
 
-def asked(link_id, number, message):
-    """A message of the station, which the module acknowledges."""
-    return sent(*cut(link_id, number, message)) + heard(acknowledgement(link_id, number))
-
-
-def answered(link_id, number, message):
-    """A message of the module, which the station acknowledges."""
-    return heard(*cut(link_id, number, message)) + sent(acknowledgement(link_id, number))
-
-
-def capabilities(socket):
-    return answered(LINK_IDS[socket], 0x80, CAPABILITIES[socket])
-
-
-def exchange_lines(first, end):
-    """Steps of the published exchange, as its frames stand in a log."""
-    lines = []
-    for step in SAMPLES["steps"][first:end]:
-        lines += sent(*map(bytes.fromhex, step["frames"])) if step["from"] == "provisioner" else step["frames"]
-    return lines
-
-
-def opening_lines():
-    lines = ["# A tray of eight places, of which 6 and 8 are empty. The sockets that have a module are opened, each with its Link ID,",
-             "# and an Open is sent on each link: a line that begins with > is a frame that the station sent."]
-    for socket, link_id in LINK_IDS.items():
-        uuid = UUID[:-1] + bytes([UUID[-1] + socket - 1])
-        lines += ["%d %08X" % (socket, link_id)] + sent(control(link_id, OPEN, uuid))
-    lines += ["# Five modules acknowledge the opening of their links; that of socket 7 stays silent to the end."]
-    lines += heard(*[control(LINK_IDS[socket], ACK) for socket in CAPABILITIES])
-    lines += ["# Each of the five gets an Invite, which asks for its capabilities, and acknowledges it."]
+def healthy_tray():
+    """Eight modules that answer, and nothing else on the air."""
+    tray = Tray(SEED, list(CAPABILITIES))
     for socket in CAPABILITIES:
-        lines += asked(LINK_IDS[socket], 0x00, INVITE)
-    return lines
-
-
-def mixed_lines():
-    """Frames of several modules in between, frames heard twice, a frame damaged."""
-    damaged = bytearray(cut(LINK_IDS[5], 0x80, CAPABILITIES[5])[0])
-    damaged[10] ^= 0x04
-    key = exchange_lines(DEVICE_PUBLIC_KEY, DEVICE_PUBLIC_KEY + 1)
-    key_acknowledged = exchange_lines(DEVICE_PUBLIC_KEY + 1, CONFIRMATION)
-    lines = ["# The module of socket 1 is the one of the standard's published samples; it sends its capabilities."] + capabilities(1)
-    lines += ["# Frames come mixed and may be heard more than once, acknowledgements too: a repeat writes nothing."]
-    lines += capabilities(3) + capabilities(2) + capabilities(1) + heard(acknowledgement(LINK_IDS[1], 0x00)) + capabilities(3)
-    lines += ["# A bit of socket 5's message was turned over on the way, and its check octet shows it: refusal 8."] + heard(damaged)
-    lines += ["# Socket 1 goes on with a Start and the two public keys, each in three frames; others come between them."]
-    lines += exchange_lines(START, DEVICE_PUBLIC_KEY) + key[:1] + capabilities(4) + key[2:]
-    lines += ["# Socket 5 sends its capabilities again, this time whole."] + capabilities(5) + key[:2] + key_acknowledged
-    lines += ["# A link that is none of ours, perhaps of the next tray: refusal 3."] + heard(cut(OTHER_LINK_ID, 0x80, CAPABILITIES[1])[0])
-    return lines
-
-
-def closing_lines():
-    changed = CAPABILITIES[2][:1] + b"\x01" + CAPABILITIES[2][2:]
-    start = bytes.fromhex(SAMPLES["steps"][START]["message"])
-    close = control(LINK_IDS[3], CLOSE, FAILURE)
-    lines = ["# Sockets 4 and 2 send capabilities in a further message: 4 the same as before, 2 with one element instead of two."]
-    lines += answered(LINK_IDS[4], 0x81, CAPABILITIES[4]) + answered(LINK_IDS[2], 0x81, changed)
-    lines += ["# Socket 1 goes on to the end of the exchange; socket 3 answers its Start with Failed."]
-    lines += exchange_lines(CONFIRMATION, LINK_CLOSE)
-    lines += asked(LINK_IDS[3], 0x01, start) + answered(LINK_IDS[3], 0x81, FAILED)
-    lines += ["# The links are closed: that of socket 3 by its module, whose Close is heard twice, the others by the station."]
-    lines += heard(close, close) + sent(*[control(LINK_IDS[socket], CLOSE, SUCCESS) for socket in (1, 2, 4, 5)])
-    return lines + sent(control(LINK_IDS[7], CLOSE, TIMEOUT))
-
-
-def example_log():
-    return "".join(line + "\n" for line in opening_lines() + mixed_lines() + closing_lines()).encode("ascii")
+        tray.serve(socket)
+    return tray

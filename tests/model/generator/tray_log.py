@@ -1,6 +1,7 @@
 """Logs of trays for the import program: random ones, and the stored one."""
 from model.generator.chance import Chance
-from model.generator.example_tray import example_log
+from model.generator.capture import capture_and_log
+from model.generator.example_tray import EMPTY, example_tray
 from model.generator.tray_frames import TrayFrames
 from model.generator.tray_lines import WRONG_LINES, comment, edge_lines, octet_lines, odd_line
 from model.import_program import log_lines
@@ -8,8 +9,8 @@ from model.station import FREE, SOCKETS
 
 SEED = 108
 RANDOM_LINES = 6000
-# In the stored log sockets 6 and 8 are never opened.
-STORED_SOCKETS = (1, 2, 3, 4, 5, 7)
+# In the stored log the socket that is empty in the example is never opened.
+STORED_SOCKETS = tuple(socket for socket in range(1, SOCKETS + 1) if socket != EMPTY)
 # Link IDs of the last openings, which are in use nowhere else.
 LAST_LINK_ID = 0x23AF58F0
 
@@ -60,7 +61,7 @@ def random_log(chance, count):
 def stored_log():
     """The example, the lines at the edges, then lines by chance."""
     tray = RandomTray(Chance(SEED), STORED_SOCKETS)
-    for line in log_lines(example_log()):
+    for line in log_lines(capture_and_log(example_tray())[1]):
         tray.take(line)
     tray.take(b"# The example ends here. Now come lines with every octet in every place, lines of every length about 64 characters,")
     tray.take(b"# and then lines made by chance beside the program, of every kind that a log can have.")

@@ -1,0 +1,77 @@
+"""The example tray has what its page tells of, and a tray where all is well gives records and no refusal."""
+import unittest
+from itertools import groupby
+
+from model.frames import read_frame
+from model.generator.capture import capture_and_log, packets_of
+from model.generator.example_tray import EMPTY, PUBLISHED, SILENT, example_tray, healthy_tray
+from model.import_program import answer_log
+from model.samples import SAMPLES
+from model.script_line import hexadecimal
+
+
+def rows_of(tray):
+    """Each row as its columns by name."""
+    names, *rows = [line.split(",") for line in answer_log(capture_and_log(tray)[1]).decode("ascii").split("\n")[:-1]]
+    return [dict(zip(names, row)) for row in rows]
+
+
+def sockets(rows, what):
+    return [row["socket"] for row in rows if row["what"] == what]
+
+
+class Example(unittest.TestCase):
+    def setUp(self):
+        self.tray = example_tray()
+        self.rows = rows_of(self.tray)
+
+    def test_every_kind_of_row(self):
+        self.assertEqual(sorted(sockets(self.rows, "record")), ["1", "2", "3", "3", "4", "5", "8"])
+        self.assertEqual((sockets(self.rows, "repeated"), sockets(self.rows, "conflict")), (["4"], ["2"]))
+        self.assertEqual((sockets(self.rows, "unopened"), sockets(self.rows, "missing")), ([str(EMPTY)], [str(SILENT)]))
+        self.assertEqual(sockets(self.rows, "message"), ["1"] * 4)
+        self.assertEqual([(row["socket"], row["refusal"]) for row in self.rows if row["what"] == "refused"], [("5", "8"), ("", "3")])
+        self.assertEqual(self.rows[-1]["what"], "end")
+
+    def test_published_exchange(self):
+        """Each frame of it, in both directions and in its order, but for repeats; the segments of a message may change places."""
+        link = [passage for passage in self.tray.in_time() if passage.octets[:4] == PUBLISHED.to_bytes(4, "big")]
+        first = list(dict.fromkeys((passage.sent, hexadecimal(passage.octets)) for passage in link))
+        published = [(step["from"] == "provisioner", sorted(step["frames"])) for step in SAMPLES["steps"]]
+        for sent, frames in published:
+            taken, first = first[:len(frames)], first[len(frames):]
+            self.assertEqual(sorted(taken), [(sent, frame) for frame in frames])
+        self.assertEqual(first, [])
+
+    def test_repeats_and_mixture(self):
+        """Frames pass once, twice and three times, sent and heard; links change from packet to packet; an event may have several frames."""
+        passages = self.tray.in_time()
+        for sent in (True, False):
+            frames = sorted(passage.octets for passage in passages if passage.sent == sent)
+            self.assertEqual({len(list(same)) for _, same in groupby(frames)}, {1, 2, 3})
+        self.assertGreater(len(list(groupby(passage.socket for passage in passages))), len(passages) // 2)
+        self.assertGreater(max(map(len, packets_of(passages))), 1)
+
+    def test_opened_again(self):
+        """The module of socket 3 closes its link, and is opened again under another Link ID."""
+        frames = [(passage.sent, read_frame(passage.octets)) for passage in self.tray.in_time() if passage.socket == 3]
+        kinds = [kind for kind, _ in groupby((sent, frame.kind) for sent, frame in frames) if kind[1] in ("Open", "Close")]
+        self.assertEqual(kinds, [(True, "Open"), (False, "Close"), (True, "Open"), (True, "Close")])
+        self.assertEqual(len({frame.link_id for _, frame in frames}), 2)
+
+    def test_damaged(self):
+        """What is refused with 8 differs from what is then recorded in the number of elements alone."""
+        heard = [passage.octets for passage in self.tray.in_time() if passage.socket == 5 and len(passage.octets) == 21]
+        damaged, whole = heard[:2]
+        self.assertEqual([place for place in range(21) if damaged[place] != whole[place]], [10])
+
+
+class Healthy(unittest.TestCase):
+    def test_records_and_no_refusal(self):
+        rows = rows_of(healthy_tray())
+        self.assertEqual(sorted(sockets(rows, "record")), list("12345678"))
+        self.assertEqual({row["what"] for row in rows}, {"record", "message", "end"})
+
+
+if __name__ == "__main__":
+    unittest.main()
