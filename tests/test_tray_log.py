@@ -44,7 +44,7 @@ class StoredTexts(unittest.TestCase):
 
 class Openings(unittest.TestCase):
     def opened(self, *frames):
-        """The opening lines of a log, and each frame that stands after one."""
+        """The opening lines of a log."""
         lines = run("btmon", btmon(*frames))[0].splitlines()
         return [line for line in lines if line[1:2] == " " and line[0] != "#"]
 
@@ -61,9 +61,10 @@ class Openings(unittest.TestCase):
             self.assertEqual(self.opened("<" + OPEN, other, "<" + OPEN), ["1 00000005"])
 
     def test_no_opening(self):
-        """An Open that was heard; one that is too short or too long; an Ack."""
+        """An Open that was heard; one that is too short or too long; an Ack. The first right one behind it opens."""
         for frame in (">" + OPEN, "<" + OPEN[:-2], "<" + OPEN + "00", "<000000050007"):
             self.assertEqual(self.opened(frame), [])
+            self.assertEqual(self.opened(frame, "<" + OPEN), ["1 00000005"])
 
     def test_module_of_no_socket(self):
         other = OPEN[:-2] + "00"
@@ -72,7 +73,12 @@ class Openings(unittest.TestCase):
         self.assertIn("link 00000005 was opened to a module of no socket, UUID 00112233445566778899AABBCCDDEE00", said)
 
 
-class WrongText(unittest.TestCase):
+class OtherText(unittest.TestCase):
+    def test_no_adapter(self):
+        """As btmon shows files in which packets have no adapter."""
+        text = btmon(">000000050007").replace("[hci0] ", "")
+        self.assertEqual(run("btmon", text), ("# 0.5\n000000050007\n", "", True))
+
     def test_other_channels(self):
         """What isn't sent to the adapter or heard by it is no frame of the log."""
         text = btmon(">000000050007") + "@ MGMT Event: Mesh Packet Found  {0x0001} [hci0] 0.6\n        Mesh Provisioning: 000000050007\n"
@@ -81,6 +87,17 @@ class WrongText(unittest.TestCase):
     def test_no_frame(self):
         for tool, text in (("btmon", ""), ("btmon", "Bluetooth monitor ver 5.66\n"), ("tshark", "")):
             self.assertEqual(run(tool, text), ("", "tray_log: no PB-ADV frame\n", False))
+
+    def test_no_time(self):
+        log, said, well = run("btmon", "> HCI Event: LE Meta Event (0x3e) plen 20\n        Mesh Provisioning: 000000050007\n")
+        self.assertEqual((log, well), ("", False))
+        self.assertIn("tray_log: a packet without its number and time", said)
+
+    def test_no_digits(self):
+        for tool, text in (("btmon", btmon(">00 00 00 05")), ("btmon", btmon(">0x00000005")), ("btmon", btmon(">000")), ("tshark", "0.5\t\t0x29\t0:7\n")):
+            log, said, well = run(tool, text)
+            self.assertEqual((log, well), ("", False))
+            self.assertIn("tray_log: not the digits of a frame", said)
 
     def test_other_fields(self):
         for line in ("0.5\t\t0x29\n", "0.5\t\t0x29\t000000050007\t\n", "000000050007\n", "0.5\t\t0x29\t000000050007,000000050007\n"):
