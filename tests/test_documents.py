@@ -55,6 +55,12 @@ class Pages(unittest.TestCase):
         self.assertEqual(len(numbered), len(set(numbered)))
         self.assertEqual(set(numbered), {number for order in called for number in order})
 
+    def test_names_of_refusals(self):
+        """Each number stands with its name in the code."""
+        named = set(re.findall(r"^\| (\d+) \| `(\w+)`", text_of("docs/REFUSALS.md"), re.MULTILINE))
+        pairs = re.findall(r"Refusal::(\w+) => (\d+)", text_of("crates/refusal_numbers/src/lib.rt"))
+        self.assertEqual(named, {(number, name) for name, number in pairs})
+
 
 if __name__ == "__main__":
     unittest.main()
