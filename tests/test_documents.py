@@ -7,7 +7,6 @@ TOP = pathlib.Path(__file__).resolve().parent.parent
 FOLDERS = (".", "docs", "tests", "tests/samples", "bench")
 PAGES = sorted(path.relative_to(TOP).as_posix() for folder in FOLDERS for path in (TOP / folder).glob("*.md"))
 NAMED = re.compile(r"`((?:\.ci|bench|crates|docs|example|scripts|tests)/[\w./]+)`?")
-NUMBERS = re.compile(r"\d\d?(?:,? \d\d?)*")
 
 
 def text_of(page):
@@ -21,9 +20,14 @@ def cells(page, heading, column):
     return [row[column].strip("| ") for row in rows[1:] if len(row) > column]
 
 
-def orders(cell):
-    """The sequences of numbers in a cell."""
-    return {tuple(map(int, re.findall(r"\d+", sequence))) for sequence in cell.split(";") if NUMBERS.fullmatch(sequence.strip())}
+def numbers(text):
+    return tuple(map(int, re.findall(r"\d+", text)))
+
+
+def orders_of_replay():
+    """The refusals of each operation of the replay program, in the order in which they are tried."""
+    rows = re.findall(r"^\| `([A-Z]{2})`, [^|]* \| [^|]* \| ([\d ]+) \|", text_of("docs/REPLAY.md"), re.MULTILINE)
+    return {name: numbers(cell) for name, cell in rows}
 
 
 class Pages(unittest.TestCase):
@@ -44,16 +48,24 @@ class Pages(unittest.TestCase):
         self.assertEqual(cells("docs/LOGS.md", "What each row asks of the operator", 0), kinds)
 
     def test_refusals(self):
-        """Each number of the replay program's calls has its row, and each call its order."""
-        called = set()
-        for cell in [cell for line in text_of("docs/REPLAY.md").splitlines() for cell in line.split(" | ")[2:3]]:
-            called |= orders(cell)
-        told = set().union(*[orders(cell) for cell in cells("docs/REFUSALS.md", "The order by call", 1)])
-        self.assertEqual(told, called)
-        self.assertIn((11, 14, 1, 2, 3, 4, 5, 12, 6, 7, 8), told)
+        """Each operation of the replay program has its order, but for the two that the program itself refuses; each number its row."""
+        called = orders_of_replay()
+        told = {}
+        for order, names in zip(cells("docs/REFUSALS.md", "The order by call", 1), cells("docs/REFUSALS.md", "The order by call", 2)):
+            told.update({name: numbers(order) for name in re.findall(r"[A-Z]{2}", names)})
+        self.assertEqual({**told, "CK": (11,), "SG": (11,)}, called)
         numbered = [int(number) for number in re.findall(r"^\| (\d+) \|", text_of("docs/REFUSALS.md"), re.MULTILINE)]
         self.assertEqual(len(numbered), len(set(numbered)))
-        self.assertEqual(set(numbered), {number for order in called for number in order})
+        self.assertEqual(set(numbered), {number for order in called.values() for number in order})
+
+    def test_drawing(self):
+        """From above, the numbers stand in the order of receiving."""
+        drawn = re.findall(r"├─ +(\d+) ──|┬─ +(\d+) ──", text_of("docs/REFUSALS.md"))
+        self.assertEqual(tuple(int(first or second) for first, second in drawn), orders_of_replay()["RF"])
+
+    def test_nothing_left_open(self):
+        for page in PAGES:
+            self.assertFalse("@@" in text_of(page), page)
 
     def test_names_of_refusals(self):
         """Each number stands with its name in the code."""

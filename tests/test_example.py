@@ -1,8 +1,11 @@
 """The example tray has what its page tells of, and a tray where all is well gives records and no refusal."""
+import pathlib
+import re
 import unittest
 from itertools import groupby
 
 from model.frames import read_frame
+from model.generator.air import SENDING
 from model.generator.capture import capture_and_log, packets_of
 from model.generator.example_tray import EMPTY, PUBLISHED, SILENT, example_tray, healthy_tray
 from model.import_program import answer_log
@@ -35,7 +38,7 @@ class Example(unittest.TestCase):
 
     def test_published_exchange(self):
         """Each frame of it, in both directions and in its order, but for repeats; the segments of a message may change places."""
-        link = [passage for passage in self.tray.in_time() if passage.octets[:4] == PUBLISHED.to_bytes(4, "big")]
+        link = [passage for passage in self.tray.air.in_time() if passage.octets[:4] == PUBLISHED.to_bytes(4, "big")]
         first = list(dict.fromkeys((passage.sent, hexadecimal(passage.octets)) for passage in link))
         published = [(step["from"] == "provisioner", sorted(step["frames"])) for step in SAMPLES["steps"]]
         for sent, frames in published:
@@ -45,7 +48,7 @@ class Example(unittest.TestCase):
 
     def test_repeats_and_mixture(self):
         """Frames pass once, twice and three times, sent and heard; links change from packet to packet; an event may have several frames."""
-        passages = self.tray.in_time()
+        passages = self.tray.air.in_time()
         for sent in (True, False):
             frames = sorted(passage.octets for passage in passages if passage.sent == sent)
             self.assertEqual({len(list(same)) for _, same in groupby(frames)}, {1, 2, 3})
@@ -54,14 +57,40 @@ class Example(unittest.TestCase):
 
     def test_opened_again(self):
         """The module of socket 3 closes its link, and is opened again under another Link ID."""
-        frames = [(passage.sent, read_frame(passage.octets)) for passage in self.tray.in_time() if passage.socket == 3]
+        frames = [(passage.sent, read_frame(passage.octets)) for passage in self.tray.air.in_time() if passage.socket == 3]
         kinds = [kind for kind, _ in groupby((sent, frame.kind) for sent, frame in frames) if kind[1] in ("Open", "Close")]
         self.assertEqual(kinds, [(True, "Open"), (False, "Close"), (True, "Open"), (True, "Close")])
         self.assertEqual(len({frame.link_id for _, frame in frames}), 2)
 
+    def test_reasons(self):
+        """Of the Closes by socket: success after the whole exchange, the time that is over on the silent link, else a failure."""
+        frames = [(passage.socket, read_frame(passage.octets)) for passage in self.tray.air.in_time()]
+        reasons = sorted({(socket, frame.reason) for socket, frame in frames if frame.kind == "Close"})
+        self.assertEqual(reasons, [(1, 0), (2, 2), (3, 2), (4, 2), (5, 2), (SILENT, 1), (8, 2)])
+
+    def test_one_adapter(self):
+        """It is not given a frame before the one before it can have gone out."""
+        sent = [passage.time for passage in self.tray.air.in_time() if passage.sent]
+        self.assertTrue(all(second - first >= SENDING for first, second in zip(sent, sent[1:])))
+
+    def test_silent(self):
+        """Opens for a minute, and then the Closes."""
+        link = [passage for passage in self.tray.air.in_time() if passage.socket == SILENT]
+        self.assertEqual([read_frame(passage.octets).kind for passage in link], ["Open"] * 3 + ["Close"] * 3)
+        self.assertGreaterEqual(link[3].time - link[0].time, 60000)
+
+    def test_page(self):
+        """The page's rows of each socket are the table's, in their order."""
+        page = (pathlib.Path(__file__).resolve().parent.parent / "docs" / "LOGS.md").read_text(encoding="utf-8")
+        told = {}
+        for socket, cell in re.findall(r"^\| ([1-8]) \| [^|]* \| ([^|]*) \|$", page, re.MULTILINE):
+            told[socket] = re.findall(r"`(\w+)`", cell.replace("four times `message`", "`message` " * 4))
+        rows = {socket: [row["what"] for row in self.rows if row["socket"] == socket] for socket in told}
+        self.assertEqual((sorted(told), told), (list("12345678"), rows))
+
     def test_damaged(self):
         """What is refused with 8 differs from what is then recorded in the number of elements alone."""
-        heard = [passage.octets for passage in self.tray.in_time() if passage.socket == 5 and len(passage.octets) == 21]
+        heard = [passage.octets for passage in self.tray.air.in_time() if passage.socket == 5 and len(passage.octets) == 21]
         damaged, whole = heard[:2]
         self.assertEqual([place for place in range(21) if damaged[place] != whole[place]], [10])
 

@@ -7,49 +7,75 @@ import unittest
 
 TESTS = pathlib.Path(__file__).resolve().parent
 SCRIPT = TESTS.parent / "scripts" / "tray_log"
-SOCKETS = "# one module\n\n1 00112233-4455-6677-8899-aabbccddeeff\n"
-OPEN, OTHER_OPEN = "00000005000300112233445566778899AABBCCDDEEFF", "00000006000300112233445566778899AABBCCDDEEFF"
+UUIDS = {1: "00112233445566778899AABBCCDDEEFF", 2: "00112233445566778899AABBCCDDEEFE", 8: "00112233445566778899AABBCCDDEEF8"}
+# With a mark of UTF-8 and a carriage return, as some editors write.
+SOCKETS = "\ufeff# Três módulos\n\n1 00112233-4455-6677-8899-aabbccddeeff\n2 %s\r\n8 %s\n" % (UUIDS[2], UUIDS[8])
 START = "000000058008002CA20102030405060708090A0B0C0D0E0F1011121314"
 FIRST, LAST = "00000005800615161718191A1B1C1D1E1F202122232425262728292A2B", "00000005800A2C"
+ACK = "000000050007"
 NO_OCTETS = "# a frame of no octets"
+
+
+def an_open(link, socket):
+    return "%08X0003%s" % (link, UUIDS[socket])
+
+
+OPEN = an_open(5, 1)
 # The log of the stored texts, a packet a line: the milliseconds, and the lines of the log.
-PACKETS = [(1, "1 00000005", ">" + OPEN), (2, ">" + OPEN), (3, "000000050007"), (4, ">0000000500000002140000"), (5, START, FIRST),
-           (6, START, FIRST, LAST), (7, START, LAST), (8, LAST), (9, "23", "0000000500", "00000005001F", NO_OCTETS),
-           (10, "000000058000" + "00" * 40, NO_OCTETS), (11, NO_OCTETS), (12, "00000005000B02"), (13, "1 00000005", ">" + OPEN)]
+PACKETS = [(1, "1 00000005", ">" + OPEN), (2, ">" + OPEN), (3, ACK), (4, ">0000000500000002140000"), (5, START, FIRST), (6, START, FIRST, LAST),
+           (7, START, LAST), (8, LAST), (9, "23", "0000000500", "00000005001F", NO_OCTETS), (10, "000000058000" + "00" * 40, NO_OCTETS),
+           (11, NO_OCTETS), (12, "00000005000B02"), (13, "1 00000005", ">" + OPEN)]
 LOG = "".join("# 2026-11-17 09:30:00.%03d000\n%s\n" % (time, "\n".join(lines)) for time, *lines in PACKETS)
 
 
-def run(tool, text, sockets=SOCKETS):
-    """The log, what standard error has, and whether all went well."""
-    with tempfile.NamedTemporaryFile("w", encoding="ascii") as file:
-        file.write(sockets)
+def run(tool, text, sockets=SOCKETS, arguments=()):
+    """The lines of the log but for comments, what standard error has, and whether all went well."""
+    with tempfile.NamedTemporaryFile() as file:
+        file.write(sockets.encode("utf-8"))
         file.flush()
-        finished = subprocess.run([sys.executable, str(SCRIPT), tool, file.name], input=text, capture_output=True, text=True, check=False)
-    return finished.stdout, finished.stderr, finished.returncode == 0
+        command = [sys.executable, str(SCRIPT), tool, file.name, *arguments]
+        finished = subprocess.run(command, input=text.encode("latin-1"), capture_output=True, check=False)
+    lines = [line for line in finished.stdout.decode("utf-8").splitlines() if not line.startswith("#")]
+    return lines, finished.stderr.decode("utf-8"), finished.returncode == 0
 
 
-def btmon(*frames):
+def btmon(*frames, adapter="[hci0] "):
     """btmon's text of these frames, < before a sent one."""
-    packets = ["%s HCI Packet  #1 [hci0] 0.5\n        Mesh Provisioning: %s\n" % (frame[0], frame[1:].lower()) for frame in frames]
-    return "Bluetooth monitor ver 5.66\n" + "".join(packets)
+    packets = ["%s HCI Packet  #1 %s0.500000\n        Mesh Provisioning: %s\n" % (frame[0], adapter, frame[1:].lower()) for frame in frames]
+    return "".join(packets)
+
+
+def tshark(sent, frames, types="0x29", unread="", adapter="0"):
+    return "\t".join(("0.5", adapter, "0x2008" if sent else "", types, frames.lower(), unread)) + "\n"
 
 
 class StoredTexts(unittest.TestCase):
+    def check(self, tool):
+        text = (TESTS / "samples" / ("packets.%s.txt" % tool)).read_bytes()
+        with tempfile.NamedTemporaryFile() as file:
+            file.write(SOCKETS.encode("utf-8"))
+            file.flush()
+            finished = subprocess.run([sys.executable, str(SCRIPT), tool, file.name], input=text, capture_output=True, check=False)
+        self.assertEqual((finished.stdout.decode("ascii"), finished.stderr, finished.returncode), (LOG, b"", 0))
+
     def test_btmon(self):
-        self.assertEqual(run("btmon", (TESTS / "samples" / "packets.btmon.txt").read_text(encoding="utf-8")), (LOG, "", True))
+        self.check("btmon")
 
     def test_tshark(self):
-        self.assertEqual(run("tshark", (TESTS / "samples" / "packets.tshark.txt").read_text(encoding="utf-8")), (LOG, "", True))
+        self.check("tshark")
 
 
 class Openings(unittest.TestCase):
     def opened(self, *frames):
         """The opening lines of a log."""
-        lines = run("btmon", btmon(*frames))[0].splitlines()
-        return [line for line in lines if line[1:2] == " " and line[0] != "#"]
+        return [line for line in run("btmon", btmon(*frames))[0] if line[1:2] == " " and line[0] != "!"]
+
+    def test_sockets(self):
+        frames = ["<" + an_open(socket + 4, socket) for socket in UUIDS]
+        self.assertEqual(self.opened(*frames), ["1 00000005", "2 00000006", "8 0000000C"])
 
     def test_once_for_a_link(self):
-        self.assertEqual(self.opened("<" + OPEN, "<" + OPEN, "<" + OTHER_OPEN, "<" + OPEN), ["1 00000005", "1 00000006"])
+        self.assertEqual(self.opened("<" + OPEN, "<" + OPEN, "<" + an_open(6, 1), "<" + OPEN), ["1 00000005", "1 00000006"])
 
     def test_again_after_a_close(self):
         for close in (">00000005000B02", "<00000005000B00"):
@@ -57,63 +83,119 @@ class Openings(unittest.TestCase):
 
     def test_no_close(self):
         """A Close of another link, and what is too short or too long for a Close."""
-        for other in (">00000006000B02", ">00000005000B", ">00000005000B0200", ">000000050007"):
+        for other in (">00000006000B02", ">00000005000B", ">00000005000B0200", ">" + ACK):
             self.assertEqual(self.opened("<" + OPEN, other, "<" + OPEN), ["1 00000005"])
 
     def test_no_opening(self):
         """An Open that was heard; one that is too short or too long; an Ack. The first right one behind it opens."""
-        for frame in (">" + OPEN, "<" + OPEN[:-2], "<" + OPEN + "00", "<000000050007"):
+        for frame in (">" + OPEN, "<" + OPEN[:-2], "<" + OPEN + "00", "<" + ACK):
             self.assertEqual(self.opened(frame), [])
             self.assertEqual(self.opened(frame, "<" + OPEN), ["1 00000005"])
 
+    def test_link_of_another_module(self):
+        """The import will refuse the second opening with 10, and does not take the second module for the first."""
+        self.assertEqual(self.opened("<" + OPEN, "<" + an_open(5, 2)), ["1 00000005", "2 00000005"])
+
     def test_module_of_no_socket(self):
         other = OPEN[:-2] + "00"
-        log, said, well = run("btmon", btmon("<" + other))
-        self.assertEqual((log, well), ("# 0.5\n>%s\n" % other, True))
-        self.assertIn("link 00000005 was opened to a module of no socket, UUID 00112233445566778899AABBCCDDEE00", said)
+        log, said, well = run("btmon", btmon("<" + OPEN, "<" + "00000006" + other[8:]))
+        self.assertEqual((log, well), (["1 00000005", ">" + OPEN, ">00000006" + other[8:]], True))
+        self.assertIn("link 00000006 was opened to a module of no socket, UUID 00112233445566778899AABBCCDDEE00", said)
 
 
 class OtherText(unittest.TestCase):
-    def test_no_adapter(self):
-        """As btmon shows files in which packets have no adapter."""
-        text = btmon(">000000050007").replace("[hci0] ", "")
-        self.assertEqual(run("btmon", text), ("# 0.5\n000000050007\n", "", True))
+    def test_adapters(self):
+        """None, another one; two of which one is named."""
+        for adapter in ("", "[hci1] "):
+            self.assertEqual(run("btmon", btmon("<" + OPEN, adapter=adapter)), (["1 00000005", ">" + OPEN], "", True))
+        text = btmon("<" + OPEN) + btmon(">" + OPEN, adapter="[hci1] ")
+        self.assertEqual(run("btmon", text, arguments=("0",)), (["1 00000005", ">" + OPEN], "", True))
+        text = tshark(True, OPEN, adapter="7") + tshark(False, ACK, adapter="8")
+        self.assertEqual(run("tshark", text, arguments=("7",)), (["1 00000005", ">" + OPEN], "", True))
+
+    def test_number_left_out(self):
+        """As btmon does where the packet before, of another adapter, has the same number."""
+        self.assertEqual(run("btmon", btmon("<" + OPEN).replace("#1 ", "")), (["1 00000005", ">" + OPEN], "", True))
+
+    def test_forms_of_time(self):
+        for time in ("12.345678", "09:30:00.500000", "2026-11-17 09:30:00.500000"):
+            self.assertEqual(run("btmon", btmon("<" + OPEN).replace("0.500000", time)), (["1 00000005", ">" + OPEN], "", True))
 
     def test_other_channels(self):
         """What isn't sent to the adapter or heard by it is no frame of the log."""
-        text = btmon(">000000050007") + "@ MGMT Event: Mesh Packet Found  {0x0001} [hci0] 0.6\n        Mesh Provisioning: 000000050007\n"
-        self.assertEqual(run("btmon", text), ("# 0.5\n000000050007\n", "", True))
+        other = "@ MGMT Event: Mesh Packet Found  {0x0001} [hci0] 0.600000\n        Mesh Provisioning: 000000050007\n"
+        self.assertEqual(run("btmon", btmon("<" + OPEN) + other), (["1 00000005", ">" + OPEN], "", True))
 
-    def test_no_frame(self):
-        for tool, text in (("btmon", ""), ("btmon", "Bluetooth monitor ver 5.66\n"), ("tshark", "")):
-            self.assertEqual(run(tool, text), ("", "tray_log: no PB-ADV frame\n", False))
+    def test_names(self):
+        """A name may have any octets, a newline among them; the frame behind it is there."""
+        for name in ("\xff\xfe", "a\nb", "Mesh Provisioning: x", "\n", "a\n Mesh Provisioning: 00"):
+            text = btmon("<" + OPEN) + btmon(">" + ACK).replace("        Mesh", "        Name (complete): %s\n        Mesh" % name)
+            self.assertEqual(run("btmon", text), (["1 00000005", ">" + OPEN, ACK], "", True))
+
+
+class NotInOrder(unittest.TestCase):
+    """Where something may be missing the log has a line that is refused, standard error says why, and the status tells."""
+
+    def check(self, words, *result):
+        lines, said, well = result
+        self.assertTrue(any(line.startswith("! ") and words in line for line in lines), lines)
+        self.assertIn("tray_log: ", said)
+        self.assertIn(words, said)
+        self.assertNotIn("Traceback", said)
+        self.assertFalse(well)
+
+    def test_no_opening(self):
+        words = "no Open was sent to a module of a socket"
+        for tool, text in (("btmon", ""), ("btmon", "Bluetooth monitor ver 5.66\n"), ("tshark", ""), ("btmon", btmon(">" + OPEN, ">" + ACK))):
+            self.check(words, *run(tool, text))
 
     def test_no_time(self):
-        log, said, well = run("btmon", "> HCI Event: LE Meta Event (0x3e) plen 20\n        Mesh Provisioning: 000000050007\n")
-        self.assertEqual((log, well), ("", False))
-        self.assertIn("tray_log: a packet without its number and time", said)
+        self.check("a packet without its time", *run("btmon", btmon("<" + OPEN) + "> HCI Event: LE Meta Event (0x3e) plen 20\n"))
 
     def test_no_digits(self):
-        for tool, text in (("btmon", btmon(">00 00 00 05")), ("btmon", btmon(">0x00000005")), ("btmon", btmon(">000")), ("tshark", "0.5\t\t0x29\t0:7\n")):
-            log, said, well = run(tool, text)
-            self.assertEqual((log, well), ("", False))
-            self.assertIn("tray_log: not the digits of a frame", said)
+        for tool, text in (("btmon", btmon(">00 00 00 05")), ("btmon", btmon(">0x00000005")), ("btmon", btmon(">000")), ("tshark", tshark(False, "0:7"))):
+            self.check("not the digits of a frame", *run(tool, text))
+
+    def test_two_adapters(self):
+        self.check("adapters 0 and 1 both have frames", *run("btmon", btmon("<" + OPEN) + btmon(">" + ACK, adapter="[hci1] ")))
+        self.check("adapters 0 and 1 both have frames", *run("tshark", tshark(True, OPEN) + tshark(False, ACK, adapter="1")))
+
+    def test_packet_not_read_to_its_end(self):
+        text = tshark(True, OPEN) + tshark(False, "", "0xff", "[Malformed Packet]") + tshark(False, ACK)
+        self.check("a packet that tshark could not read to its end", *run("tshark", text))
+        self.assertEqual(run("tshark", text)[0][-1], ACK)
+
+    def test_two_frames_sent_at_once(self):
+        self.check("a packet to the adapter with more than one frame", *run("tshark", tshark(True, OPEN + "," + ACK, "0x29,0x29")))
 
     def test_other_fields(self):
-        for line in ("0.5\t\t0x29\n", "0.5\t\t0x29\t000000050007\t\n", "000000050007\n", "0.5\t\t0x29\t000000050007,000000050007\n"):
-            log, said, well = run("tshark", line)
-            self.assertEqual((log, well), ("", False))
-            self.assertIn("tray_log: ", said)
+        self.check("not six fields", *run("tshark", "0.5\t\t0x29\t%s\n" % ACK))
+        self.check("not six fields", *run("tshark", ACK + "\n"))
+        self.check("more frames than PB-ADV has", *run("tshark", tshark(False, ACK + "," + ACK)))
 
     def test_sockets(self):
-        uuid = "00112233445566778899AABBCCDDEEFF"
-        for sockets in ("0 " + uuid, "9 " + uuid, "1 " + uuid[2:], "1" + uuid, "1 %s\n1 %s" % (uuid, uuid[::-1]), "1 %s\n2 %s" % (uuid, uuid.lower())):
-            log, said, well = run("btmon", btmon(">000000050007"), sockets + "\n")
-            self.assertEqual((log, well), ("", False))
-            self.assertIn("tray_log: ", said)
+        uuid = UUIDS[1]
+        for sockets in ("0 " + uuid, "9 " + uuid, "1 " + uuid[2:], "1" + uuid, "1  " + uuid):
+            self.check("not a socket 1 to 8, a space and a UUID of 32 digits", *run("btmon", btmon(">" + ACK), sockets + "\n"))
+        for sockets in ("1 %s\n1 %s" % (uuid, UUIDS[2]), "1 %s\n2 %s" % (uuid, uuid.lower())):
+            self.check("a socket or a UUID for the second time", *run("btmon", btmon(">" + ACK), sockets + "\n"))
+
+    def test_no_file(self):
+        finished = subprocess.run([sys.executable, str(SCRIPT), "btmon", "no such file"], input=b"", capture_output=True, check=False)
+        self.assertEqual((finished.stdout[:2], finished.returncode), (b"! ", 1))
+        self.assertIn(b"tray_log: [Errno 2] No such file or directory", finished.stderr)
+
+    def test_full_disk(self):
+        with open("/dev/full", "wb") as full, tempfile.NamedTemporaryFile() as file:
+            finished = subprocess.run([sys.executable, str(SCRIPT), "btmon", file.name], input=btmon("<" + OPEN).encode("ascii"), stdout=full,
+                                      stderr=subprocess.PIPE, check=False)
+        self.assertNotEqual(finished.returncode, 0)
+        self.assertIn(b"No space left on device", finished.stderr)
+        self.assertNotIn(b"Traceback", finished.stderr)
 
     def test_usage(self):
         self.assertIn("usage: ", run("hcidump", "")[1])
+        self.assertIn("usage: ", run("btmon", "", arguments=("0", "1"))[1])
 
 
 if __name__ == "__main__":

@@ -3,9 +3,9 @@ from typing import NamedTuple
 
 from model.frames import ACK, ACKNOWLEDGEMENT, CLOSE, CONTROL, OPEN, cut, frame_octets
 
-# Milliseconds from a frame to the next one of its message, and between two rounds of the same frames.
-FRAME_TIME, PAUSE = 10, 20
 ROUNDS = 3
+# Milliseconds: from one frame to the next of the same sender, and that a frame takes the adapter.
+SOONEST, LATEST, SENDING = 20, 50, 10
 
 
 class Passage(NamedTuple):
@@ -20,80 +20,102 @@ def control(link_id, opcode, octets=b""):
     return frame_octets(link_id, 0, CONTROL, opcode, octets)
 
 
-class Link:
-    """The passages of one link. What comes next begins at `time`."""
+class Air:
+    """All passages of a tray. The station has one adapter, which sends one frame after the other."""
 
-    def __init__(self, chance, socket, link_id, time):
+    def __init__(self):
+        self.passages = []
+
+    def heard(self, time, socket, octets):
+        self.passages.append(Passage(time, False, socket, octets))
+
+    def sent(self, time, socket, octets):
+        """At the first time that the adapter is free; gives that time."""
+        while any(passage.sent and abs(passage.time - time) < SENDING for passage in self.passages):
+            time += 1
+        self.passages.append(Passage(time, True, socket, octets))
+        return time
+
+    def in_time(self):
+        """All passages by their time; at the same time, a socket after the other."""
+        return sorted(self.passages, key=lambda passage: (passage.time, passage.socket))
+
+
+class Link:
+    """One link. What comes next on it begins at `time`."""
+
+    def __init__(self, air, chance, socket, link_id, time):
+        self.air = air
         self.chance = chance
         self.socket = socket
         self.link_id = link_id
         self.time = time
-        self.passages = []
 
     def wait(self, milliseconds):
         self.time += milliseconds
 
-    def pass_on(self, time, sent, octets):
-        self.passages.append(Passage(time, sent, self.socket, octets))
+    def pause(self):
+        """What a sender waits before each frame."""
+        self.wait(self.chance.between(SOONEST, LATEST))
 
-    def repeat(self, sent, octets):
-        """A frame that nobody acknowledges, one to three times; the other end answers the first."""
+    def send(self, *frames):
+        for frame in frames:
+            self.time = self.air.sent(self.time, self.socket, frame)
+            self.pause()
+
+    def hear(self, frame):
+        """A frame of the module that is not acknowledged, one to three times; the station goes on at the first."""
         for place in range(self.chance.between(1, ROUNDS)):
-            self.pass_on(self.time + place * (FRAME_TIME + 2), sent, octets)
-        self.wait(self.chance.between(10, 25))
+            self.air.heard(self.time + place * SENDING, self.socket, frame)
+        self.pause()
 
-    def open(self, uuid, answered=True):
-        """Opens until the module's Ack comes; without an answer, three."""
-        for _ in range(self.chance.between(1, ROUNDS) if answered else ROUNDS):
-            self.pass_on(self.time, True, control(self.link_id, OPEN, uuid))
-            self.wait(self.chance.between(30, 45))
-        if answered:
-            self.repeat(False, control(self.link_id, ACK))
+    def open(self, uuid):
+        """One to three Opens until the module's Ack comes."""
+        for _ in range(self.chance.between(1, ROUNDS)):
+            self.send(control(self.link_id, OPEN, uuid))
+        self.hear(control(self.link_id, ACK))
 
-    def close(self, sent, reason):
+    def open_in_vain(self, uuid, milliseconds):
+        """Three Opens in that time."""
+        for _ in range(ROUNDS):
+            self.send(control(self.link_id, OPEN, uuid))
+            self.wait(milliseconds // ROUNDS)
+
+    def close(self, reason):
+        """A Close is not acknowledged, so it is sent three times."""
         self.wait(150)
-        self.repeat(sent, control(self.link_id, CLOSE, reason))
+        self.send(*[control(self.link_id, CLOSE, reason)] * ROUNDS)
+
+    def hear_close(self, reason):
+        self.wait(150)
+        self.hear(control(self.link_id, CLOSE, reason))
 
     def ask(self, number, message):
         """A message of the station, in one to three rounds until the module acknowledges it."""
         for _ in range(self.chance.between(1, ROUNDS)):
-            for frame in cut(self.link_id, number, message):
-                self.pass_on(self.time, True, frame)
-                self.wait(FRAME_TIME)
-            self.wait(PAUSE)
-        self.repeat(False, frame_octets(self.link_id, number, ACKNOWLEDGEMENT, 0, b""))
+            self.send(*cut(self.link_id, number, message))
+        self.hear(frame_octets(self.link_id, number, ACKNOWLEDGEMENT, 0, b""))
 
-    def answer(self, number, message):
-        """A message of the module, which sends it round after round until the station's acknowledgement."""
+    def answer(self, number, message, damaged=None):
+        """A message of the module, which sends it in rounds until it hears the station's acknowledgement, and perhaps once more. The
+        station acknowledges it when it is whole, and again for each later round. A damaged frame comes instead of the first."""
         frames = cut(self.link_id, number, message)
-        heard = self.rounds(frames)
-        whole = max(min(time for time, octets in heard if octets == frame) for frame in frames)
-        self.acknowledge(number, heard, whole)
+        missing, more = set(frames), self.chance.below(2)
+        for place in range(ROUNDS):
+            heard = self.round(frames, place, damaged)
+            missing -= set(heard)
+            if heard and not missing:
+                self.send(frame_octets(self.link_id, number, ACKNOWLEDGEMENT, 0, b""))
+                more -= 1
+            if more < 0:
+                return
 
-    def answer_damaged(self, number, message, damaged):
-        """A message of one frame in three rounds, damaged on its way the first time."""
-        frame, = cut(self.link_id, number, message)
-        heard = [(self.round_time(place, 1), damaged if place == 0 else frame) for place in range(ROUNDS)]
-        self.acknowledge(number, heard, heard[1][0])
-
-    def acknowledge(self, number, heard, whole):
-        """The station acknowledges the message that is whole at that time, and the module stops."""
-        acknowledged = whole + self.chance.between(6, 14)
-        for time, octets in heard:
-            if time <= acknowledged + FRAME_TIME + PAUSE:
-                self.pass_on(time, False, octets)
-        self.time = acknowledged
-        self.repeat(True, frame_octets(self.link_id, number, ACKNOWLEDGEMENT, 0, b""))
-
-    def round_time(self, place, count):
-        return self.time + place * (count * FRAME_TIME + PAUSE)
-
-    def rounds(self, frames):
-        """Each frame in one or more of three rounds, the Start in the first: a Continuation before it would be refused."""
+    def round(self, frames, place, damaged):
+        """What is heard of one round: the Start of the first always, since a Continuation before it would be refused, and all of the last."""
         heard = []
         for index, frame in enumerate(frames):
-            places = [place for place in range(ROUNDS) if self.chance.happens(70)] or [self.chance.below(ROUNDS)]
-            if index == 0:
-                places = sorted({0, *places})
-            heard += [(self.round_time(place, len(frames)) + index * FRAME_TIME, frame) for place in places]
+            if (place, index) == (0, 0) or place == ROUNDS - 1 or self.chance.happens(70):
+                heard.append(damaged if damaged and place == 0 else frame)
+                self.air.heard(self.time, self.socket, heard[-1])
+            self.pause()
         return heard

@@ -124,7 +124,7 @@ def capture_and_log(tray):
     for socket in tray.sockets:
         beacon = structure(FLAGS, b"\x06") + structure(MESH_BEACON, b"\x00" + uuid_of(socket) + b"\x00\x00")
         capture.heard(10 * socket, report(0, structure(MANUFACTURER, b"\x59\x00\x29\x00")), report(socket, beacon))
-    for packet in packets_of(tray.in_time()):
+    for packet in packets_of(tray.air.in_time()):
         milliseconds = packet[0].time
         if packet[0].sent:
             time = capture.sent(milliseconds, packet[0].octets)

@@ -1,6 +1,6 @@
 """The example: a tray of seven modules, one of them silent, from its first opening to its last close; and a tray where all is well."""
 from model.frames import cut
-from model.generator.air import Link, Passage
+from model.generator.air import Air, Link
 from model.generator.chance import Chance
 from model.samples import SAMPLES
 
@@ -38,15 +38,12 @@ class Tray:
     def __init__(self, seed, sockets):
         self.chance = Chance(seed)
         self.sockets = sockets
-        self.passages = []
+        self.air = Air()
 
     def link(self, socket, time):
         """A link ready to be opened; its Link ID is made by chance, but for that of the published exchange."""
         link_id = PUBLISHED if socket == 1 else int.from_bytes(self.chance.octets(4), "big")
-        link = Link(self.chance, socket, link_id, time)
-        # One list for all of them.
-        link.passages = self.passages
-        return link
+        return Link(self.air, self.chance, socket, link_id, time)
 
     def asked(self, socket, time=None):
         """A link that was opened, and whose module was asked for its capabilities."""
@@ -67,43 +64,38 @@ class Tray:
             for step in EXCHANGE:
                 exchange = link.ask if step["from"] == "provisioner" else link.answer
                 exchange(int(step["number"], 16), bytes.fromhex(step["message"]))
-        link.close(True, SUCCESS if socket == 1 else FAILURE)
+        link.close(SUCCESS if socket == 1 else FAILURE)
 
     def serve_twice_answered(self, socket, second):
         """A module that sends a second Capabilities message."""
         link = self.answered(socket)
         link.wait(200)
         link.answer(0x81, second)
-        link.close(True, FAILURE)
+        link.close(FAILURE)
 
     def serve_closing(self, socket):
         """A module that closes its link after its answer, and is opened again."""
         link = self.answered(socket)
-        link.close(False, FAILURE)
-        self.answered(socket, link.time + 300).close(True, FAILURE)
+        link.hear_close(FAILURE)
+        self.answered(socket, link.time + 300).close(FAILURE)
 
     def serve_damaged(self, socket):
         """A bit of the Capabilities message, in the number of elements, turned over on its way the first time."""
         link = self.asked(socket)
         damaged = bytearray(cut(link.link_id, 0x80, CAPABILITIES[socket])[0])
         damaged[MESSAGE + 1] ^= 0x04
-        link.answer_damaged(0x80, CAPABILITIES[socket], bytes(damaged))
-        link.close(True, FAILURE)
+        link.answer(0x80, CAPABILITIES[socket], bytes(damaged))
+        link.close(FAILURE)
 
     def serve_silent(self, socket):
         link = self.link(socket, 100 * socket)
-        link.open(uuid_of(socket), answered=False)
-        link.wait(OPENING_TIME)
-        link.close(True, TIMEOUT)
+        link.open_in_vain(uuid_of(socket), OPENING_TIME)
+        link.close(TIMEOUT)
 
     def hear_next_tray(self, time):
         """A frame of a link that is none of the tray's."""
         link_id = int.from_bytes(self.chance.octets(4), "big")
-        self.passages.append(Passage(time, False, 0, cut(link_id, 0x80, CAPABILITIES[1])[0]))
-
-    def in_time(self):
-        """All passages by their time; at the same time, a socket after the other."""
-        return sorted(self.passages, key=lambda passage: (passage.time, passage.socket))
+        self.air.heard(time, 0, cut(link_id, 0x80, CAPABILITIES[1])[0])
 
 
 def example_tray():
