@@ -3,6 +3,8 @@ import pathlib
 import re
 import unittest
 
+from model.log_coverage import OUTCOMES
+
 TOP = pathlib.Path(__file__).resolve().parent.parent
 FOLDERS = (".", "docs", "tests", "tests/samples", "bench")
 PAGES = sorted(path.relative_to(TOP).as_posix() for folder in FOLDERS for path in (TOP / folder).glob("*.md"))
@@ -57,6 +59,12 @@ class Pages(unittest.TestCase):
         numbered = [int(number) for number in re.findall(r"^\| (\d+) \|", text_of("docs/REFUSALS.md"), re.MULTILINE)]
         self.assertEqual(len(numbered), len(set(numbered)))
         self.assertEqual(set(numbered), {number for order in called.values() for number in order})
+
+    def test_refusals_of_the_table(self):
+        """The page says which numbers the import program's table can have."""
+        met = {int(number) for outcomes in OUTCOMES.values() for outcome in outcomes for number in re.findall(r"^refused (\d+)", outcome)}
+        self.assertEqual(met, {*range(1, 13), *range(42, 46)})
+        self.assertIn("and only 1 to 12 and 42 to 45 do", " ".join(text_of("docs/REFUSALS.md").split()))
 
     def test_drawing(self):
         """From above, the numbers stand in the order of receiving."""

@@ -11,6 +11,7 @@ from model.generator.example_tray import EMPTY, PUBLISHED, SILENT, example_tray,
 from model.import_program import answer_log
 from model.samples import SAMPLES
 from model.script_line import hexadecimal
+from model.stock_table import FIELDS
 
 
 def rows_of(tray):
@@ -35,6 +36,11 @@ class Example(unittest.TestCase):
         self.assertEqual(sockets(self.rows, "message"), ["1"] * 4)
         self.assertEqual([(row["socket"], row["refusal"]) for row in self.rows if row["what"] == "refused"], [("5", "8"), ("", "3")])
         self.assertEqual(self.rows[-1]["what"], "end")
+
+    def test_conflict(self):
+        """The second answer of socket 2 has static OOB data, and else the same fields."""
+        record, conflict = [row for row in self.rows if row["socket"] == "2"]
+        self.assertEqual({name: conflict[name] for name in FIELDS if record[name] != conflict[name]}, {"static_oob_type": "1"})
 
     def test_published_exchange(self):
         """Each frame of it, in both directions and in its order, but for repeats; the segments of a message may change places."""

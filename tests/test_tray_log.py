@@ -1,5 +1,6 @@
 """scripts/tray_log: from the text of btmon and of tshark to a log. The stored texts are those of btmon 5.66 and tshark 4.0.17."""
 import pathlib
+import select
 import subprocess
 import sys
 import tempfile
@@ -45,8 +46,14 @@ def btmon(*frames, adapter="[hci0] "):
     return "".join(packets)
 
 
-def tshark(sent, frames, types="0x29", unread="", adapter="0"):
-    return "\t".join(("0.5", adapter, "0x2008" if sent else "", types, frames.lower(), unread)) + "\n"
+def tshark(sent, *frames, unread="", adapter="0", types=None, lengths=None, data_length=None):
+    """tshark's fields of a packet with these frames."""
+    counts = [1 + len(frame) // 2 for frame in frames]
+    total = str(sum(counts) + len(counts)) if data_length is None else data_length
+    lengths = ",".join(map(str, counts)) if lengths is None else lengths
+    types = ",".join(["0x29"] * len(frames)) if types is None else types
+    data = ",".join(filter(None, frames)).lower()
+    return "\t".join(("0.5", adapter, "0x2008" if sent else "", total if sent else "", types, lengths, data, unread)) + "\n"
 
 
 class StoredTexts(unittest.TestCase):
@@ -92,6 +99,12 @@ class Openings(unittest.TestCase):
             self.assertEqual(self.opened(frame), [])
             self.assertEqual(self.opened(frame, "<" + OPEN), ["1 00000005"])
 
+    def test_again_when_the_link_was_used(self):
+        """The import will refuse the second opening with 9: a Close is missing. An Ack alone may come between two Opens."""
+        for frame in (">" + START, ">" + LAST, "<0000000500000002140000", ">000000050001"):
+            self.assertEqual(self.opened("<" + OPEN, frame, "<" + OPEN, "<" + OPEN), ["1 00000005"] * 2)
+        self.assertEqual(self.opened("<" + OPEN, ">" + ACK, "<" + OPEN), ["1 00000005"])
+
     def test_link_of_another_module(self):
         """The import will refuse the second opening with 10, and does not take the second module for the first."""
         self.assertEqual(self.opened("<" + OPEN, "<" + an_open(5, 2)), ["1 00000005", "2 00000005"])
@@ -106,7 +119,7 @@ class Openings(unittest.TestCase):
 class OtherText(unittest.TestCase):
     def test_adapters(self):
         """None, another one; two of which one is named."""
-        for adapter in ("", "[hci1] "):
+        for adapter in ("", "[hci1] ", "[hci10] "):
             self.assertEqual(run("btmon", btmon("<" + OPEN, adapter=adapter)), (["1 00000005", ">" + OPEN], "", True))
         text = btmon("<" + OPEN) + btmon(">" + OPEN, adapter="[hci1] ")
         self.assertEqual(run("btmon", text, arguments=("0",)), (["1 00000005", ">" + OPEN], "", True))
@@ -126,9 +139,21 @@ class OtherText(unittest.TestCase):
         other = "@ MGMT Event: Mesh Packet Found  {0x0001} [hci0] 0.600000\n        Mesh Provisioning: 000000050007\n"
         self.assertEqual(run("btmon", btmon("<" + OPEN) + other), (["1 00000005", ">" + OPEN], "", True))
 
+    def test_lines_at_once(self):
+        """The log of a packet is there when the next one begins."""
+        with tempfile.NamedTemporaryFile() as file:
+            file.write(SOCKETS.encode("utf-8"))
+            file.flush()
+            with subprocess.Popen([sys.executable, str(SCRIPT), "btmon", file.name], stdin=subprocess.PIPE, stdout=subprocess.PIPE) as process:
+                process.stdin.write(btmon("<" + OPEN, ">" + ACK).encode("ascii"))
+                process.stdin.flush()
+                there, _, _ = select.select([process.stdout], [], [], 20)
+                self.assertEqual(there, [process.stdout])
+                self.assertEqual(process.stdout.readline(), b"# 0.500000\n")
+
     def test_names(self):
         """A name may have any octets, a newline among them; the frame behind it is there."""
-        for name in ("\xff\xfe", "a\nb", "Mesh Provisioning: x", "\n", "a\n Mesh Provisioning: 00"):
+        for name in ("\xff\xfe", "a\nb", "Mesh Provisioning: x", "\n", "a\n Mesh Provisioning: 00", "a\n= b", "a\n@ b 1", "a\r\n* b"):
             text = btmon("<" + OPEN) + btmon(">" + ACK).replace("        Mesh", "        Name (complete): %s\n        Mesh" % name)
             self.assertEqual(run("btmon", text), (["1 00000005", ">" + OPEN, ACK], "", True))
 
@@ -152,8 +177,19 @@ class NotInOrder(unittest.TestCase):
     def test_no_time(self):
         self.check("a packet without its time", *run("btmon", btmon("<" + OPEN) + "> HCI Event: LE Meta Event (0x3e) plen 20\n"))
 
+    def test_open_is_missing(self):
+        for frame in (START, "000000050001"):
+            self.check("frames were sent on link 00000005, and its Open is not there", *run("btmon", btmon("<" + an_open(6, 1), "<" + frame)))
+        for frame in ("<00000005000B00", ">" + START):
+            self.assertTrue(run("btmon", btmon("<" + an_open(6, 1), frame))[2])
+        self.assertTrue(run("btmon", btmon("<" + OPEN, ">00000005000B00", "<000000058001"))[2])
+
+    def test_link_of_a_module_of_no_socket(self):
+        other = OPEN[:-2] + "00"
+        self.check("link 00000005 was opened a second time, to a module of no socket", *run("btmon", btmon("<" + OPEN, "<" + other)))
+
     def test_no_digits(self):
-        for tool, text in (("btmon", btmon(">00 00 00 05")), ("btmon", btmon(">0x00000005")), ("btmon", btmon(">000")), ("tshark", tshark(False, "0:7"))):
+        for tool, text in (("btmon", btmon(">00 00 00 05")), ("btmon", btmon(">0x00000005")), ("btmon", btmon(">000")), ("tshark", tshark(False, "0:7.", lengths="3"))):
             self.check("not the digits of a frame", *run(tool, text))
 
     def test_two_adapters(self):
@@ -161,21 +197,36 @@ class NotInOrder(unittest.TestCase):
         self.check("adapters 0 and 1 both have frames", *run("tshark", tshark(True, OPEN) + tshark(False, ACK, adapter="1")))
 
     def test_packet_not_read_to_its_end(self):
-        text = tshark(True, OPEN) + tshark(False, "", "0xff", "[Malformed Packet]") + tshark(False, ACK)
-        self.check("a packet that tshark could not read to its end", *run("tshark", text))
-        self.assertEqual(run("tshark", text)[0][-1], ACK)
+        for unread in (tshark(False, types="0xff", lengths="1", unread="[Malformed Packet]"), tshark(False, ACK, unread="[Malformed Packet]")):
+            text = tshark(True, OPEN) + unread + tshark(False, LAST)
+            self.check("a packet that was not read as it is", *run("tshark", text))
+            self.assertEqual(run("tshark", text)[0][-1], LAST)
+        size = "        invalid packet size\n"
+        for kind in ("> HCI Event: LE Meta Event (0x3e) plen 20", "< HCI Command: LE.. (0x08|0x0008) plen 9"):
+            self.check("a packet that was not read as it is", *run("btmon", btmon("<" + OPEN) + kind + "  #2 [hci0] 0.600000\n" + size))
+        other = "> HCI Event: Vendor (0xff) plen 20  #2 [hci0] 0.600000\n" + size
+        self.assertEqual(run("btmon", btmon("<" + OPEN) + other), (["1 00000005", ">" + OPEN], "", True))
+
+    def test_lengths(self):
+        """A frame that is shorter or longer than its AD structure, one too many, and one behind the data's length."""
+        for line in (tshark(False, ACK, lengths="8"), tshark(False, ACK, lengths="6"), tshark(False, ACK, ACK, types="0x29", lengths="7"),
+                     tshark(False, ACK, types="0x29,0x29", lengths="7,7"), tshark(True, ACK, data_length="3"), tshark(True, ACK, data_length="0")):
+            self.check("a packet that was not read as it is", *run("tshark", tshark(True, OPEN) + line))
+        others = tshark(False, "", ACK, types="0x01,0x29,0x29,0xff", lengths="2,1,7,3")
+        self.assertEqual(run("tshark", tshark(True, OPEN) + others), (["1 00000005", ">" + OPEN, ACK], "", True))
 
     def test_two_frames_sent_at_once(self):
-        self.check("a packet to the adapter with more than one frame", *run("tshark", tshark(True, OPEN + "," + ACK, "0x29,0x29")))
+        self.check("a packet to the adapter with more than one frame", *run("tshark", tshark(True, OPEN, ACK)))
+        text = btmon("<" + OPEN) + "        Mesh Provisioning: %s\n" % ACK.lower()
+        self.check("a packet to the adapter with more than one frame", *run("btmon", text))
 
     def test_other_fields(self):
-        self.check("not six fields", *run("tshark", "0.5\t\t0x29\t%s\n" % ACK))
-        self.check("not six fields", *run("tshark", ACK + "\n"))
-        self.check("more frames than PB-ADV has", *run("tshark", tshark(False, ACK + "," + ACK)))
+        for line in ("0.5\t\t0x29\t%s\n" % ACK, ACK + "\n", tshark(False, ACK, types="0x29,0x01"), tshark(False, ACK, lengths="7,7")):
+            self.check("not eight fields", *run("tshark", tshark(True, OPEN) + line))
 
     def test_sockets(self):
         uuid = UUIDS[1]
-        for sockets in ("0 " + uuid, "9 " + uuid, "1 " + uuid[2:], "1" + uuid, "1  " + uuid):
+        for sockets in ("0 " + uuid, "9 " + uuid, "1 " + uuid[2:], "1" + uuid, "1  " + uuid, "1 %s # left" % uuid):
             self.check("not a socket 1 to 8, a space and a UUID of 32 digits", *run("btmon", btmon(">" + ACK), sockets + "\n"))
         for sockets in ("1 %s\n1 %s" % (uuid, UUIDS[2]), "1 %s\n2 %s" % (uuid, uuid.lower())):
             self.check("a socket or a UUID for the second time", *run("btmon", btmon(">" + ACK), sockets + "\n"))
@@ -184,6 +235,20 @@ class NotInOrder(unittest.TestCase):
         finished = subprocess.run([sys.executable, str(SCRIPT), "btmon", "no such file"], input=b"", capture_output=True, check=False)
         self.assertEqual((finished.stdout[:2], finished.returncode), (b"! ", 1))
         self.assertIn(b"tray_log: [Errno 2] No such file or directory", finished.stderr)
+
+    def test_sockets_in_another_code(self):
+        with tempfile.NamedTemporaryFile() as file:
+            file.write(SOCKETS.encode("utf-16"))
+            file.flush()
+            finished = subprocess.run([sys.executable, str(SCRIPT), "btmon", file.name], input=b"", capture_output=True, check=False)
+        self.assertEqual((finished.stdout[:2], finished.returncode), (b"! ", 1))
+        self.assertNotIn(b"Traceback", finished.stderr)
+
+    def test_no_input(self):
+        with tempfile.NamedTemporaryFile() as file:
+            command = "%s %s btmon %s <&-" % (sys.executable, SCRIPT, file.name)
+            finished = subprocess.run(["bash", "-c", command], capture_output=True, check=False)
+        self.assertEqual((finished.stdout, finished.returncode), (b"! there is no standard input\n", 1))
 
     def test_full_disk(self):
         with open("/dev/full", "wb") as full, tempfile.NamedTemporaryFile() as file:
