@@ -1,4 +1,5 @@
 """scripts/tray_log: from the text of btmon and of tshark to a log. The stored texts are those of btmon 5.66 and tshark 4.0.17."""
+import os
 import pathlib
 import select
 import subprocess
@@ -98,6 +99,7 @@ class Openings(unittest.TestCase):
         for frame in (">" + OPEN, "<" + OPEN[:-2], "<" + OPEN + "00", "<" + ACK):
             self.assertEqual(self.opened(frame), [])
             self.assertEqual(self.opened(frame, "<" + OPEN), ["1 00000005"])
+            self.assertEqual(run("btmon", btmon("<" + OPEN, frame))[1:], ("", True))
 
     def test_again_when_the_link_was_used(self):
         """The import will refuse the second opening with 9: a Close is missing. An Ack alone may come between two Opens."""
@@ -121,8 +123,8 @@ class OtherText(unittest.TestCase):
         """None, another one; two of which one is named."""
         for adapter in ("", "[hci1] ", "[hci10] "):
             self.assertEqual(run("btmon", btmon("<" + OPEN, adapter=adapter)), (["1 00000005", ">" + OPEN], "", True))
-        text = btmon("<" + OPEN) + btmon(">" + OPEN, adapter="[hci1] ")
-        self.assertEqual(run("btmon", text, arguments=("0",)), (["1 00000005", ">" + OPEN], "", True))
+        text = btmon(">" + OPEN) + btmon("<" + OPEN, adapter="[hci10] ")
+        self.assertEqual(run("btmon", text, arguments=("10",)), (["1 00000005", ">" + OPEN], "", True))
         text = tshark(True, OPEN, adapter="7") + tshark(False, ACK, adapter="8")
         self.assertEqual(run("tshark", text, arguments=("7",)), (["1 00000005", ">" + OPEN], "", True))
 
@@ -144,7 +146,8 @@ class OtherText(unittest.TestCase):
         with tempfile.NamedTemporaryFile() as file:
             file.write(SOCKETS.encode("utf-8"))
             file.flush()
-            with subprocess.Popen([sys.executable, str(SCRIPT), "btmon", file.name], stdin=subprocess.PIPE, stdout=subprocess.PIPE) as process:
+            buffered = {name: value for name, value in os.environ.items() if name != "PYTHONUNBUFFERED"}
+            with subprocess.Popen([sys.executable, str(SCRIPT), "btmon", file.name], stdin=subprocess.PIPE, stdout=subprocess.PIPE, env=buffered) as process:
                 process.stdin.write(btmon("<" + OPEN, ">" + ACK).encode("ascii"))
                 process.stdin.flush()
                 there, _, _ = select.select([process.stdout], [], [], 20)
@@ -189,8 +192,9 @@ class NotInOrder(unittest.TestCase):
         self.check("link 00000005 was opened a second time, to a module of no socket", *run("btmon", btmon("<" + OPEN, "<" + other)))
 
     def test_no_digits(self):
-        for tool, text in (("btmon", btmon(">00 00 00 05")), ("btmon", btmon(">0x00000005")), ("btmon", btmon(">000")), ("tshark", tshark(False, "0:7.", lengths="3"))):
-            self.check("not the digits of a frame", *run(tool, text))
+        for frame in (">00 00 00 05", ">0x00000005", ">000"):
+            self.check("not the digits of a frame", *run("btmon", btmon(frame)))
+        self.check("not the digits of a frame", *run("tshark", tshark(False, "0:7.", lengths="3")))
 
     def test_two_adapters(self):
         self.check("adapters 0 and 1 both have frames", *run("btmon", btmon("<" + OPEN) + btmon(">" + ACK, adapter="[hci1] ")))
@@ -223,6 +227,7 @@ class NotInOrder(unittest.TestCase):
     def test_other_fields(self):
         for line in ("0.5\t\t0x29\t%s\n" % ACK, ACK + "\n", tshark(False, ACK, types="0x29,0x01"), tshark(False, ACK, lengths="7,7")):
             self.check("not eight fields", *run("tshark", tshark(True, OPEN) + line))
+        self.check("invalid literal", *run("tshark", tshark(True, OPEN) + tshark(False, ACK, lengths="x")))
 
     def test_sockets(self):
         uuid = UUIDS[1]

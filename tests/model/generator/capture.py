@@ -104,7 +104,7 @@ def packets_of(passages):
     return packets
 
 
-def opening_line(passage, opened):
+def opening_lines(passage, opened):
     """The line that opens a socket, where an Open is the first sent on its link; a link that was closed is forgotten."""
     try:
         frame = read_frame(passage.octets)
@@ -132,7 +132,7 @@ def capture_and_log(tray):
             time = capture.heard(milliseconds, *[report(passage.socket, structure(PB_ADV, passage.octets)) for passage in packet])
         lines.append("# " + time)
         for passage in packet:
-            lines += opening_line(passage, opened) + [(">" if passage.sent else "") + hexadecimal(passage.octets)]
+            lines += opening_lines(passage, opened) + [(">" if passage.sent else "") + hexadecimal(passage.octets)]
     return capture.octets, "".join(line + "\n" for line in lines).encode("ascii")
 
 
