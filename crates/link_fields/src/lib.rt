@@ -7,7 +7,7 @@ ghost use mathlib.Core.Path.{_≡_};
 ghost use mathlib.Core.Bool.{cond};
 ghost use lib.Dec.{leb};
 ghost use Rattle.links.specs.Marks.{isMarked, withMark, allMarked, noneAbove};
-ghost use Rattle.links.specs.Links.{sends, isLast, inUse};
+ghost use Rattle.links.specs.Links.{sends, firstNumber, isLast, inUse};
 ghost use Rattle.links.specs.Station.{isOpen};
 
 // Whether segment k is in.
@@ -52,6 +52,16 @@ pub fn is_sent_by(side: Side, number: TransactionNumber) -> bool
     match side {
         Side::Provisioner => number.0 / 128 == 0,
         Side::Device => number.0 / 128 == 1,
+    }
+}
+
+// The number that an end sends first.
+pub fn first_number(side: Side) -> TransactionNumber
+    ensures { λ r. ⌜ r ≡ firstNumber side ⌝ }
+{
+    match side {
+        Side::Provisioner => TransactionNumber(0x00),
+        Side::Device => TransactionNumber(0x80),
     }
 }
 

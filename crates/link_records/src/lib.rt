@@ -5,6 +5,7 @@ use links::LastDelivered;
 use links::Link;
 use links::LinkState;
 use links::Refusal;
+use links::Side;
 use transactions::TransactionNumber;
 ghost use mathlib.Core.Path.{_≡_};
 ghost use lib.ListN.{getD, replicate};
@@ -19,14 +20,15 @@ pub struct Received {
     pub answer: Answer,
 }
 
-// A record in a state and with a Link ID, and else blank.
-pub fn blank_with(state: LinkState, id: u32) -> Link
-    ensures { λ r. ⌜ r ≡ blankWith Provisioner state id ⌝ }
+// A record of an end in a state and with a Link ID, and else blank.
+pub fn blank_with(side: Side, state: LinkState, id: u32) -> Link
+    ensures { λ r. ⌜ r ≡ blankWith side state id ⌝ }
 {
+    let next = link_fields::first_number(side);
     Link {
         state: state,
         id: id,
-        next: TransactionNumber(0),
+        next: next,
         outstanding: false,
         last: LastDelivered::Nothing,
         half: HalfReceived::Nothing,
@@ -37,7 +39,7 @@ pub fn blank_with(state: LinkState, id: u32) -> Link
 pub fn blank_links() -> [Link; 8]
     ensures { λ r. ⌜ r ≡ replicate 8 (blank Provisioner) ⌝ }
 {
-    let link = blank_with(LinkState::Free, 0);
+    let link = blank_with(Side::Provisioner, LinkState::Free, 0);
     [link; 8]
 }
 
@@ -75,7 +77,7 @@ pub fn link_at(links: [Link; 8], place: usize) -> Link
     if place < 8 {
         return links[place];
     }
-    blank_with(LinkState::Free, 0)
+    blank_with(Side::Provisioner, LinkState::Free, 0)
 }
 
 // The records with another at a place, if there is such a place, and an answer.

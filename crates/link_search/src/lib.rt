@@ -6,7 +6,7 @@ ghost use mathlib.Core.Path.{_≡_};
 ghost use Rattle.links.specs.Links.{hasId, find};
 
 // Whether a record is in use and has a Link ID.
-fn has_id(link: Link, id: u32) -> bool
+pub fn has_id(link: Link, id: u32) -> bool
     ensures { λ r. ⌜ r ≡ hasId link id ⌝ }
 {
     let state = link.state;

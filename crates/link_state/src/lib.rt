@@ -24,7 +24,7 @@ ghost use Rattle.links.specs.Good.{goodMessage, goodHalf, goodLast, isNothing, 
 ghost use Rattle.links.specs.declared.LinkState.the-variants.{Opening, Open};
 
 // The other end.
-fn peer_of(side: Side) -> Side
+pub fn peer_of(side: Side) -> Side
     ensures { λ r. ⌜ r ≡ peer side ⌝ }
 {
     match side {

@@ -30,7 +30,7 @@ fn open_at(links: [Link; 8], socket: Socket, id: u32) -> Received
     match taken {
         Found::At(_) => refuse_call(links, Refusal::LinkIdInUse),
         Found::Nowhere => {
-            let opened = blank_with(LinkState::Opening, id);
+            let opened = blank_with(Side::Provisioner, LinkState::Opening, id);
             store(links, place, opened, Answer::Done)
         }
     }
@@ -100,7 +100,7 @@ fn close_at(links: [Link; 8], socket: Socket) -> Received
     let link = link_at(links, place);
     let state = link.state;
     if link_fields::is_in_use(state) {
-        let closed = blank_with(LinkState::Free, 0);
+        let closed = blank_with(Side::Provisioner, LinkState::Free, 0);
         return store(links, place, closed, Answer::Done);
     }
     refuse_call(links, Refusal::NotOpen)

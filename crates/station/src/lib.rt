@@ -79,7 +79,7 @@ fn after_close(reason: u8) -> Stepped
     ensures { λ r. ⌜ r ≡ steppedTo (blank Provisioner) (Closed reason) ⌝ }
 {
     Stepped {
-        link: blank_with(LinkState::Free, 0),
+        link: blank_with(Side::Provisioner, LinkState::Free, 0),
         answer: Answer::Closed { reason: reason },
     }
 }
