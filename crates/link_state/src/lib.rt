@@ -203,12 +203,11 @@ fn are_apart(a: Link, b: Link) -> bool
 {
     let first = a.state;
     let second = b.state;
+    if a.id != b.id {
+        return true;
+    }
     if is_in_use(first) {
-        if is_in_use(second) {
-            a.id != b.id
-        } else {
-            true
-        }
+        if is_in_use(second) { false } else { true }
     } else {
         true
     }

@@ -252,7 +252,7 @@ module _ (side : Side) (x : OneLink) (linkGood : goodLink side (x .link) ≡ tru
 -- ---- the call
 
 -- a frame goes to the record of its Link ID
-goes : (side : Side) (σ : Station) (f : List ℕ) (p : Parsed) → IsFrame f p → onFrame side σ f p ≡ atSocket side σ (find (σ .links) (linkId f)) f p
+pub goes : (side : Side) (σ : Station) (f : List ℕ) (p : Parsed) → IsFrame f p → onFrame side σ f p ≡ atSocket side σ (find (σ .links) (linkId f)) f p
 goes side σ f p (start k s) = refl
 goes side σ f p (acknowledgement k) = refl
 goes side σ f p (continuation k h) = refl

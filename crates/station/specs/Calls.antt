@@ -2,12 +2,14 @@
 use Prim.Native.Nat.{ℕ}
 use mathlib.Core.List.{List}
 use Rattle.links.specs.Segments.{OneLink}
-use Rattle.links.specs.Station.{Station, received}
+use Rattle.links.specs.Station.{Station, getLink, putLink, received}
 use Rattle.links.specs.declared.Side.the-variants.{Provisioner}
 use Rattle.links.specs.declared.Link.{Link}
+use Rattle.links.specs.declared.Found.{Found}
+use Rattle.links.specs.declared.Found.the-variants.{At, Nowhere}
 use Rattle.links.specs.declared.Answer.{Answer}
 use Rattle.link_records.specs.declared.Received.{Received}
-use Rattle.station.specs.declared.Stepped.{Stepped}
+use Rattle.link_steps.specs.Calls.{linkStepped}
 
 -- the records and the lent area together
 abbrev pub stationOf : List Link → List ℕ → Station
@@ -21,9 +23,13 @@ receiving links area f = received Provisioner (stationOf links area) f
 abbrev pub receivedOf : Answer × Station → Received
 receivedOf r = record { links = r .1 .links; answer = r .0 }
 
--- one link with its socket's part of the area, and the record and the answer after a step of it
-abbrev pub oneLink : Link → List ℕ → OneLink
-oneLink link part = record { link = link; part = part }
+-- a frame at the link of place s, with its socket's part of the area
+abbrev pub atPlace : List Link → List ℕ → List ℕ → ℕ → Answer × Station
+atPlace links area f s =
+    let r : Answer × OneLink = linkStepped Provisioner (getLink s (stationOf links area)) f in
+    (r .0, putLink s (r .1) (stationOf links area))
 
-abbrev pub steppedOf : Answer × OneLink → Stepped
-steppedOf r = record { link = r .1 .link; answer = r .0 }
+-- the place of the record that is found, or else the first
+abbrev pub placeOf : Found → ℕ
+placeOf (At s) = s
+placeOf Nowhere = 0

@@ -1,11 +1,11 @@
--- The part that was lent and is back is a write (`back`); a good state has a good link at each place (`link-in`).
+-- The part that was lent and is back is a write (`back`).
 use Prim.Native.Nat.{_*_, _+_, _-_, _<_, ℕ}
 use borrow.Author.Needs.{needs}
 use lib.ListN.{length}
 use mathlib.Core.Path.{_∙_}
 use native.Mathlib.Nat.{add-sub-cancel-left}
 use native.Mathlib.Omega.{arith}
-use Rattle.station.proofs.Laws.{back, link-in, socket-area, socket-stored}
+use Rattle.station.proofs.Laws.{back, socket-area, socket-stored}
 use Rattle.station.proofs.at_socket.Statement.{statement}
 use Rattle.station.proofs.at_socket.Tie as tie
 
@@ -18,24 +18,20 @@ array-copy-out-link c = search needs
 mul-base : tie.Need-mul-base
 mul-base c = search needs
 
-add-take-segment : tie.Need-add-take-segment
-add-take-segment c = search needs
+add-step : tie.Need-add-step
+add-step c = search needs
 
-sub-take-segment : tie.Need-sub-take-segment
-sub-take-segment c = search needs
+sub-step : tie.Need-sub-step
+sub-step c = search needs
 
-part-take-segment-start : tie.Need-part-take-segment-start
-part-take-segment-start c = search needs
+part-step-start : tie.Need-part-step-start
+part-step-start c = search needs
 
-part-take-segment-end : tie.Need-part-take-segment-end
-part-take-segment-end c = search needs
+part-step-end : tie.Need-part-step-end
+part-step-end c = search needs
 
-take-segment-requires : tie.Need-take-segment-requires
-take-segment-requires c κs =
-    let a = c .before .before .before .before .args in
-    let q = c .before .before .before .before .pre in
-    let n : a .place < length (a .links) = search needs in
-    record { room = search needs; half = link-in (a .links) (a .place) (q .1 .state) n; inFrame = q .1 .inFrame; fits = q .1 .fits }
+step-requires : tie.Need-step-requires
+step-requires c κs = search needs
 
 mul-after : tie.Need-mul-after
 mul-after c = search needs
@@ -48,13 +44,13 @@ same-length c = search needs
 
 returns : tie.Need-returns
 returns c =
-    let st = c .before .before .before .take-segment in
+    let st = c .before .before .before .step in
     let a = c .before .before .before .before .before .before .before .before .args in
     let b : ℕ = 1469 * a .place in
     let e = add-sub-cancel-left b 1469 in (
-      rw (st .ensures .0) (socket-stored (a .links) (a .area .now) (a .frame .now) (a .segment) (a .place) (b + 1469 - b) e),
+      rw (st .ensures .0) (socket-stored (a .links) (a .area .now) (a .frame .now) (a .place) (b + 1469 - b) e),
       back (a .area .now) b (b + 1469 - b) (st .last .1 .1 .0) (omega (arith, st .kept .1 .1 .0))
-          ∙ rw (st .ensures .1) (socket-area (a .links) (a .area .now) (a .frame .now) (a .segment) (a .place) (b + 1469 - b) e),
+          ∙ rw (st .ensures .1) (socket-area (a .links) (a .area .now) (a .frame .now) (a .place) (b + 1469 - b) e),
     )
 
 pub at-socket-spec : {M : Type 1} → statement M
@@ -64,11 +60,11 @@ at-socket-spec =
     mul-link
     array-copy-out-link
     mul-base
-    add-take-segment
-    sub-take-segment
-    part-take-segment-start
-    part-take-segment-end
-    take-segment-requires
+    add-step
+    sub-step
+    part-step-start
+    part-step-end
+    step-requires
     mul-after
     array-set-from-after
     same-length

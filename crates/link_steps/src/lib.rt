@@ -1,0 +1,118 @@
+// The steps of one link, at either end: a frame that is received for it.
+mod other_frames;
+mod segments;
+
+use links::Answer;
+use links::HalfReceived;
+use links::Link;
+use links::Refusal;
+use links::Side;
+use octets::LONGEST_MESSAGE;
+use other_frames::step_frame;
+use pb_adv::FrameRefusal;
+use pb_adv::Parsed;
+use segments::take_segment;
+ghost use mathlib.Core.List.{[]};
+ghost use mathlib.Core.Path.{_≡_};
+ghost use Rattle.links.specs.Station.{frameRefusal};
+ghost use Rattle.link_steps.specs.Calls.{oneLink, steppedOf, atId, ofLink, inRange, linkStepped, linkReceived};
+ghost use Rattle.link_steps.specs.Steps.{linkRefused, NoSegment};
+
+// One record after a step of its link, and the answer.
+pub struct Stepped {
+    pub link: Link,
+    pub answer: Answer,
+}
+
+// The record as it was, and a refusal.
+fn refuse_link(link: Link, refusal: Refusal) -> Stepped
+    ensures { λ r. ⌜ r ≡ linkRefused link refusal ⌝ }
+{
+    Stepped {
+        link: link,
+        answer: Answer::Refused(refusal),
+    }
+}
+
+// The refusal of octets that are no frame.
+fn refusal_of(refusal: FrameRefusal) -> Refusal
+    ensures { λ r. ⌜ r ≡ frameRefusal refusal ⌝ }
+{
+    match refusal {
+        FrameRefusal::Malformed => Refusal::Malformed,
+        FrameRefusal::UnknownOpcode => Refusal::UnknownOpcode,
+    }
+}
+
+// A frame that is no segment and has a Link ID.
+fn at_id(side: Side, link: Link, id: u32, parsed: Parsed) -> Stepped
+    requires { ⌜ NoSegment parsed ⌝ }
+    ensures { λ r. ⌜ r ≡ steppedOf (atId side (oneLink link []) id [] parsed) ⌝ }
+{
+    if link_search::has_id(link, id) {
+        step_frame(side, link, parsed)
+    } else {
+        refuse_link(link, Refusal::UnknownLink)
+    }
+}
+
+// A frame of another kind; a segment does not come here.
+fn receive_other(side: Side, link: Link, parsed: Parsed) -> Stepped
+    requires { ⌜ NoSegment parsed ⌝ }
+    ensures { λ r. ⌜ r ≡ steppedOf (ofLink side (oneLink link []) [] parsed) ⌝ }
+{
+    match parsed {
+        Parsed::Segment(_) => refuse_link(link, Refusal::Malformed),
+        Parsed::Acknowledgement { id, number: _ } => at_id(side, link, id, parsed),
+        Parsed::Open { id, uuid: _ } => at_id(side, link, id, parsed),
+        Parsed::Ack { id } => at_id(side, link, id, parsed),
+        Parsed::Close { id, reason: _ } => at_id(side, link, id, parsed),
+        Parsed::Refused(refusal) => refuse_link(link, refusal_of(refusal)),
+    }
+}
+
+// Whether a half-received message has a length that a message may have.
+fn is_in_range(half: HalfReceived) -> bool
+    ensures { λ r. ⌜ r ≡ inRange half ⌝ }
+{
+    match half {
+        HalfReceived::Nothing => true,
+        HalfReceived::Message(message) => octets::is_length(message.length as usize),
+    }
+}
+
+// A frame at a link whose record is judged already; of its state only what the part needs is tested. The part has LONGEST_MESSAGE octets.
+pub fn step(side: Side, link: Link, part: &mut [u8], frame: &[u8]) -> Stepped
+    ensures { λ r. ⌜ (r ≡ steppedOf (linkStepped side (oneLink link (now (part .entry))) (now (frame .entry))))
+        × (now (part .exit) ≡ linkStepped side (oneLink link (now (part .entry))) (now (frame .entry)) .1 .part) ⌝ }
+{
+    if part.len() != LONGEST_MESSAGE {
+        return refuse_link(link, Refusal::WrongArgument);
+    }
+    let half = link.half;
+    if is_in_range(half) {
+        let parsed = pb_adv::parse(frame);
+        let Parsed::Segment(segment) = parsed else {
+            return receive_other(side, link, parsed);
+        };
+        if link_search::has_id(link, segment.id) {
+            return take_segment(side, link, segment, part, frame);
+        }
+        return refuse_link(link, Refusal::UnknownLink);
+    }
+    refuse_link(link, Refusal::BadState)
+}
+
+// Receives a frame at one link. The part has LONGEST_MESSAGE octets.
+pub fn receive(side: Side, link: Link, part: &mut [u8], frame: &[u8]) -> Stepped
+    ensures { λ r. ⌜ (r ≡ steppedOf (linkReceived side (oneLink link (now (part .entry))) (now (frame .entry))))
+        × (now (part .exit) ≡ linkReceived side (oneLink link (now (part .entry))) (now (frame .entry)) .1 .part) ⌝ }
+{
+    if part.len() != LONGEST_MESSAGE {
+        return refuse_link(link, Refusal::WrongArgument);
+    }
+    if link_state::is_good_link(side, link) {
+        return step(side, link, part, frame);
+    }
+    refuse_link(link, Refusal::BadState)
+}
