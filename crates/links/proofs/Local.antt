@@ -6,7 +6,7 @@ use mathlib.Core.List.{List}
 use mathlib.Core.Path.{_≡_, refl, sym, ap, _∙_}
 use lib.Dec.{eqb, leb}
 use lib.ListN.{length, getD, set, length-set}
-use lib.Seq.{getD-set-same, getD-set-other, set-out}
+use lib.Seq.{getD-set-same, getD-set-other, set-getD, set-out}
 use borrow.Author.Tests.{eqb-true, eqb-false, leb-true, leb-false}
 use Rattle.octets.specs.Told.{answered}
 use Rattle.octets.proofs.Tables.{other-told}
@@ -44,6 +44,10 @@ module _ (side : Side) (ls : List Link) (socket : Socket) where
       (λ r g. cases (inUse (linkAt ls socket .state)) (λ e. rw e (refusal R.SocketInUse refl))
       (λ e. rw e (cases (isFound (find ls id)) (λ u. rw u (refusal R.LinkIdInUse refl)) (λ u. rw u (written r g refl refl)))))
 
+  -- a refusal by the step of the socket's record
+  record-refuses : {C : Type 0} {a : Answer} {l : Link} (q : Refusal) → Calls C a l (A.Refused q, withLink ls socket (linkAt ls socket))
+  record-refuses q = refusal q (rw (set-getD ls (socketPlace socket) noLink))
+
   -- the record with its outstanding mark set
   abbrev pub sending : Link
   sending = withSending (linkAt ls socket) (linkAt ls socket .next) true
@@ -53,15 +57,15 @@ module _ (side : Side) (ls : List Link) (socket : Socket) where
   send-calls n =
       judged-calls (isSocket socket (length ls) && isLength n) _
       (λ r g. cases (isOpen (linkAt ls socket .state))
-      (λ e. rw e (cases (linkAt ls socket .outstanding) (λ u. rw u (refusal R.Outstanding refl))
+      (λ e. rw e (cases (linkAt ls socket .outstanding) (λ u. rw u (record-refuses R.Outstanding))
       (λ u. rw u (written (both-hold {a = isSocket socket (length ls)} {b = isLength n} r .0) g refl refl))))
-      (λ e. rw e (refusal R.NotOpen refl)))
+      (λ e. rw e (record-refuses R.NotOpen)))
 
   pub close-calls : Calls (inUse (linkAt ls socket .state) ≡ true) A.Done (blank side) (localClose side ls socket)
   unfolding localClose
   close-calls =
       judged-calls (isSocket socket (length ls)) _
-      (λ r g. cases (inUse (linkAt ls socket .state)) (λ e. rw e (written r g refl refl)) (λ e. rw e (refusal R.NotOpen refl)))
+      (λ r g. cases (inUse (linkAt ls socket .state)) (λ e. rw e (written r g refl refl)) (λ e. rw e (record-refuses R.NotOpen)))
 
   -- an Open of a socket in use, and a Close of a socket that there isn't, change nothing
   pub open-used : (id : ℕ) → inUse (linkAt ls socket .state) ≡ true → localOpen side ls socket id .1 ≡ ls

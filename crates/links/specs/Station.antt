@@ -123,6 +123,10 @@ linkAt ls s = getD ls (socketPlace s) noLink
 abbrev pub withLink : List Link → Socket → Link → List Link
 withLink ls s l = set ls (socketPlace s) l
 
+-- a step of a socket's record
+abbrev pub atRecord : List Link → Socket → Answer × Link → Answer × List Link
+atRecord ls s r = (r .0, withLink ls s (r .1))
+
 -- 11 a wrong argument, 14 a bad state, then the call's own step
 abbrev pub judged : Side → List Link → Bool → Answer × List Link → Answer × List Link
 judged side ls right step = cond right (cond (good side ls) step (A.Refused R.BadState, ls)) (A.Refused R.WrongArgument, ls)
@@ -148,19 +152,18 @@ isOpen S.Opening = false
 isOpen S.Open = true
 
 -- "Send: 11, 4 (not open), 13 (one outstanding); it sets the mark and gives the number and SegN", for a message of n octets
-abbrev pub sendAt : List Link → Socket → ℕ → Answer × List Link
-sendAt ls s n =
-    cond (isOpen (linkAt ls s .state))
-    (cond (linkAt ls s .outstanding) (A.Refused R.Outstanding, ls)
-    (A.Sending (linkAt ls s .next) (segN n), withLink ls s (withSending (linkAt ls s) (linkAt ls s .next) true)))
-    (A.Refused R.NotOpen, ls)
+abbrev pub sendStep : Link → ℕ → Answer × Link
+sendStep l n =
+    cond (isOpen (l .state))
+    (cond (l .outstanding) (A.Refused R.Outstanding, l) (A.Sending (l .next) (segN n), withSending l (l .next) true))
+    (A.Refused R.NotOpen, l)
 
 unfoldable pub localSend : Side → List Link → Socket → ℕ → Answer × List Link
-localSend side ls s n = judged side ls (isSocket s (length ls) && isLength n) (sendAt ls s n)
+localSend side ls s n = judged side ls (isSocket s (length ls) && isLength n) (atRecord ls s (sendStep (linkAt ls s) n))
 
 -- "Close: 11, 4 (free); it frees the record"
-abbrev pub closeAt : Side → List Link → Socket → Answer × List Link
-closeAt side ls s = cond (inUse (linkAt ls s .state)) (A.Done, withLink ls s (blank side)) (A.Refused R.NotOpen, ls)
+abbrev pub closeStep : Side → Link → Answer × Link
+closeStep side l = cond (inUse (l .state)) (A.Done, blank side) (A.Refused R.NotOpen, l)
 
 unfoldable pub localClose : Side → List Link → Socket → Answer × List Link
-localClose side ls s = judged side ls (isSocket s (length ls)) (closeAt side ls s)
+localClose side ls s = judged side ls (isSocket s (length ls)) (atRecord ls s (closeStep side (linkAt ls s)))
