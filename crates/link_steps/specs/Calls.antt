@@ -28,6 +28,10 @@ oneLink link part = record { link = link; part = part }
 abbrev pub steppedOf : Answer × OneLink → Stepped
 steppedOf r = record { link = r .1 .link; answer = r .0 }
 
+-- the record and the answer after a step of the record alone
+abbrev pub recordStepped : Answer × Link → Stepped
+recordStepped r = record { link = r .1; answer = r .0 }
+
 -- 3 "Link ID of no record in use", or the link's step
 abbrev pub atId : Side → OneLink → ℕ → List ℕ → Parsed → Answer × OneLink
 atId side x id f p = cond (hasId (x .link) id) (frameStep side x (x .link .state) f p) (A.Refused R.UnknownLink, x)

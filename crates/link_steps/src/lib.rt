@@ -1,10 +1,13 @@
-// The steps of one link, at either end: a frame that is received for it.
+// The steps of one link, at either end: a frame that is received for it, a local Send, a local Close.
 mod other_frames;
 mod segments;
 
+use link_records::blank_with;
+use link_records::with_sending;
 use links::Answer;
 use links::HalfReceived;
 use links::Link;
+use links::LinkState;
 use links::Refusal;
 use links::Side;
 use octets::LONGEST_MESSAGE;
@@ -14,8 +17,8 @@ use pb_adv::Parsed;
 use segments::take_segment;
 ghost use mathlib.Core.List.{[]};
 ghost use mathlib.Core.Path.{_≡_};
-ghost use Rattle.links.specs.Station.{frameRefusal};
-ghost use Rattle.link_steps.specs.Calls.{oneLink, steppedOf, atId, ofLink, inRange, linkStepped, linkReceived};
+ghost use Rattle.links.specs.Station.{frameRefusal, sendStep, closeStep};
+ghost use Rattle.link_steps.specs.Calls.{oneLink, steppedOf, recordStepped, atId, ofLink, inRange, linkStepped, linkReceived};
 ghost use Rattle.link_steps.specs.Steps.{linkRefused, NoSegment};
 
 // One record after a step of its link, and the answer.
@@ -115,4 +118,41 @@ pub fn receive(side: Side, link: Link, part: &mut [u8], frame: &[u8]) -> Stepped
         return step(side, link, part, frame);
     }
     refuse_link(link, Refusal::BadState)
+}
+
+// Begins to send a message of so many octets.
+pub fn send(link: Link, length: u16) -> Stepped
+    ensures { λ r. ⌜ r ≡ recordStepped (sendStep link length) ⌝ }
+{
+    let state = link.state;
+    if link_fields::is_open(state) {
+        if link.outstanding {
+            return refuse_link(link, Refusal::Outstanding);
+        }
+        let number = link.next;
+        let last = transactions::last_segment(length);
+        let sending = with_sending(link, number, true);
+        return Stepped {
+            link: sending,
+            answer: Answer::Sending {
+                number: number,
+                last: last,
+            },
+        };
+    }
+    refuse_link(link, Refusal::NotOpen)
+}
+
+// Frees the record.
+pub fn close(side: Side, link: Link) -> Stepped
+    ensures { λ r. ⌜ r ≡ recordStepped (closeStep side link) ⌝ }
+{
+    let state = link.state;
+    if link_fields::is_in_use(state) {
+        return Stepped {
+            link: blank_with(side, LinkState::Free, 0),
+            answer: Answer::Done,
+        };
+    }
+    refuse_link(link, Refusal::NotOpen)
 }

@@ -12,7 +12,7 @@ use links::Refusal;
 use links::Side;
 use transactions::Socket;
 ghost use mathlib.Core.Path.{_≡_};
-ghost use Rattle.links.specs.Station.{openAt, localOpen, sendAt, localSend, closeAt, localClose};
+ghost use Rattle.links.specs.Station.{openAt, localOpen, atRecord, linkAt, sendStep, localSend, closeStep, localClose};
 ghost use Rattle.links.specs.declared.Side.the-variants.{Provisioner};
 ghost use Rattle.local_calls.specs.Calls.{calledOf};
 
@@ -51,29 +51,13 @@ pub fn open(links: [Link; 8], socket: Socket, id: u32) -> Received
 
 // Send, once 11 and 14 are tried.
 fn send_at(links: [Link; 8], socket: Socket, length: u16) -> Received
-    ensures { λ r. ⌜ r ≡ calledOf (sendAt links socket length) ⌝ }
+    ensures { λ r. ⌜ r ≡ calledOf (atRecord links socket (sendStep (linkAt links socket) length)) ⌝ }
 {
     let place = socket.place();
-    let link = link_at(links, place);
-    let state = link.state;
-    if link_fields::is_open(state) {
-        if link.outstanding {
-            return refuse_call(links, Refusal::Outstanding);
-        }
-        let number = link.next;
-        let last = transactions::last_segment(length);
-        let sending = link_records::with_sending(link, number, true);
-        return store(
-            links,
-            place,
-            sending,
-            Answer::Sending {
-                number: number,
-                last: last,
-            },
-        );
-    }
-    refuse_call(links, Refusal::NotOpen)
+    let stepped = link_steps::send(link_at(links, place), length);
+    let next = stepped.link;
+    let answer = stepped.answer;
+    store(links, place, next, answer)
 }
 
 // Begins to send a message of so many octets on a socket's link: its number and SegN.
@@ -94,16 +78,13 @@ pub fn send(links: [Link; 8], socket: Socket, length: usize) -> Received
 
 // Close, once 11 and 14 are tried.
 fn close_at(links: [Link; 8], socket: Socket) -> Received
-    ensures { λ r. ⌜ r ≡ calledOf (closeAt Provisioner links socket) ⌝ }
+    ensures { λ r. ⌜ r ≡ calledOf (atRecord links socket (closeStep Provisioner (linkAt links socket))) ⌝ }
 {
     let place = socket.place();
-    let link = link_at(links, place);
-    let state = link.state;
-    if link_fields::is_in_use(state) {
-        let closed = blank_with(Side::Provisioner, LinkState::Free, 0);
-        return store(links, place, closed, Answer::Done);
-    }
-    refuse_call(links, Refusal::NotOpen)
+    let stepped = link_steps::close(Side::Provisioner, link_at(links, place));
+    let next = stepped.link;
+    let answer = stepped.answer;
+    store(links, place, next, answer)
 }
 
 // Closes a socket's link.
