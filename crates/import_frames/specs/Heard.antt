@@ -9,9 +9,9 @@ use Rattle.pb_adv.specs.Frame.{parsed}
 use Rattle.pb_adv.specs.declared.Parsed.{Parsed}
 use Rattle.pb_adv.specs.declared.Parsed.the-variants as P
 use Rattle.transactions.specs.declared.TransactionNumber.{TransactionNumber}
+use Rattle.links.specs.Links.{provisioner}
 use Rattle.links.specs.Station.{Station, noLink, received}
 use Rattle.links.specs.Promises.{addressed}
-use Rattle.links.specs.declared.Side.the-variants.{Provisioner}
 use Rattle.links.specs.declared.Link.{Link}
 use Rattle.links.specs.declared.Found.{Found}
 use Rattle.links.specs.declared.Found.the-variants.{At, Nowhere}
@@ -48,7 +48,7 @@ isRepeat next (P.Refused r) n = false
 -- what is written of a refusal, with the records before the frame
 abbrev pub refusedReport : List Link → Parsed → ℕ → ℕ → Report
 refusedReport links p line n =
-    let found : Found = addressed links p in
+    let found : Found = addressed provisioner links p in
     cond (isRepeat (nextOf links found) p n) R.Nothing (R.Row (refusedRow line (frameOrigin found p) n))
 
 -- ---- deliveries
@@ -63,15 +63,15 @@ deliveredStep Nowhere p tray area line n = nothingAfter tray
 -- by what the answer comes to: the records before it, and the tray and the lent area after it
 abbrev pub heardBy : Outcome → List Link → Parsed → Tray → List ℕ → ℕ → Step
 heardBy (O.Refused n) links p tray area line = stepTo tray (refusedReport links p line n)
-heardBy (O.Delivered n t) links p tray area line = deliveredStep (addressed links p) p tray area line n
+heardBy (O.Delivered n t) links p tray area line = deliveredStep (addressed provisioner links p) p tray area line n
 heardBy O.Nothing links p tray area line = nothingAfter tray
 
 -- A FRAME HEARD, in the line of that number
 unfoldable pub heardStep : Tray → List ℕ → ℕ → List ℕ → Step
 heardStep tray area line f =
-    let r : Answer × Station = received Provisioner (stationOf tray area) f in
+    let r : Answer × Station = received provisioner (stationOf tray area) f in
     heardBy (outcomeOf (r .0)) (tray .links) (parsed f) (withLinks tray (r .1 .links)) (r .1 .area) line
 
 -- the lent area after it
 unfoldable pub heardArea : Tray → List ℕ → List ℕ → List ℕ
-heardArea tray area f = received Provisioner (stationOf tray area) f .1 .area
+heardArea tray area f = received provisioner (stationOf tray area) f .1 .area

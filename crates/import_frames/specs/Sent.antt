@@ -10,6 +10,7 @@ use Rattle.pb_adv.specs.declared.SegmentHeader.the-variants.{Start, Continuatio
 use Rattle.pb_adv.specs.declared.Parsed.{Parsed}
 use Rattle.pb_adv.specs.declared.Parsed.the-variants as P
 use Rattle.transactions.specs.declared.TransactionNumber.{TransactionNumber}
+use Rattle.links.specs.Links.{provisioner}
 use Rattle.links.specs.Station.{noLink, localSend, localClose}
 use Rattle.links.specs.Promises.{addressed}
 use Rattle.links.specs.declared.Side.the-variants.{Provisioner}
@@ -80,5 +81,5 @@ sentBy (A.Close socket) tray line origin = called tray line origin (localClose P
 -- A FRAME SENT, in the line of that number
 unfoldable pub sentStep : Tray → ℕ → List ℕ → Step
 sentStep tray line f =
-    let found : Found = addressed (tray .links) (parsed f) in
+    let found : Found = addressed provisioner (tray .links) (parsed f) in
     sentBy (sentOf (tray .links) found (parsed f)) tray line (frameOrigin found (parsed f))

@@ -16,6 +16,7 @@ use transactions::TransactionNumber;
 ghost use mathlib.Core.Path.{_≡_};
 ghost use Prim.Native.Nat.{_*_, _<_, min};
 ghost use Rattle.octets.specs.Parts.{part};
+ghost use Rattle.links.specs.Links.{provisioner};
 ghost use Rattle.links.specs.Promises.{addressed};
 ghost use Rattle.pb_adv.specs.Frame.{parsed};
 ghost use Rattle.provisioning.specs.Message.{messageRead};
@@ -78,7 +79,7 @@ fn message_at(area: &[u8], place: usize, length: u16) -> Message
 
 // A delivery of so many octets: the message stands in the part of the record that the frame's Link ID found.
 fn deliver(tray: Tray, links: [Link; 8], area: &[u8], line: u64, frame: &[u8], length: u16) -> Step
-    ensures { λ r. ⌜ r ≡ deliveredStep (addressed links (parsed (now (frame .entry)))) (parsed (now (frame .entry))) tray (now (area .entry)) line length ⌝ }
+    ensures { λ r. ⌜ r ≡ deliveredStep (addressed provisioner links (parsed (now (frame .entry)))) (parsed (now (frame .entry))) tray (now (area .entry)) line length ⌝ }
 {
     let parsed = pb_adv::parse(frame);
     let found = find_record(links, parsed);

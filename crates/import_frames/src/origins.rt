@@ -5,6 +5,7 @@ use links::Link;
 use pb_adv::Parsed;
 use stock_table::Origin;
 ghost use mathlib.Core.Path.{_≡_};
+ghost use Rattle.links.specs.Links.{provisioner};
 ghost use Rattle.links.specs.Promises.{addressed};
 ghost use Rattle.line_fields.specs.declared.Field.the-variants.{Number};
 ghost use Rattle.stock_table.specs.Rows.{originOf};
@@ -12,7 +13,7 @@ ghost use Rattle.import_frames.specs.Origins.{FoundWithin, socketField, 
 
 // The record in use that has the frame's Link ID.
 pub fn find_record(links: [Link; 8], parsed: Parsed) -> Found
-    ensures { λ r. ⌜ (r ≡ addressed links parsed) × FoundWithin r ⌝ }
+    ensures { λ r. ⌜ (r ≡ addressed provisioner links parsed) × FoundWithin r ⌝ }
 {
     match parsed {
         Parsed::Segment(segment) => link_search::find_link(links, segment.id),
@@ -69,7 +70,7 @@ fn origin_by(found: Found, parsed: Parsed) -> Origin
 
 // The same by the records.
 pub fn frame_origin(links: [Link; 8], parsed: Parsed) -> Origin
-    ensures { λ r. ⌜ r ≡ frameOrigin (addressed links parsed) parsed ⌝ }
+    ensures { λ r. ⌜ r ≡ frameOrigin (addressed provisioner links parsed) parsed ⌝ }
 {
     origin_by(find_record(links, parsed), parsed)
 }

@@ -23,9 +23,9 @@ use Rattle.pb_adv.specs.declared.FrameRefusal.the-variants.{Malformed}
 use Rattle.pb_adv.specs.declared.Parsed.the-variants as P
 use Rattle.transactions.specs.Numbers.{socketPlace}
 use Rattle.transactions.specs.declared.Socket.{Socket}
+use Rattle.links.specs.Links.{provisioner}
 use Rattle.links.specs.Station.{Station, received}
 use Rattle.links.specs.declared.Answer.{Answer}
-use Rattle.links.specs.declared.Side.the-variants.{Provisioner}
 use Rattle.import_tray.specs.Trays.{stationOf, withStock, nothingAfter}
 use Rattle.import_tray.specs.declared.Stock.the-variants.{Missing}
 use Rattle.import_tray.specs.declared.Tray.{Tray}
@@ -100,7 +100,7 @@ unfolding parsed
 parsed-long f h = rw (le-leb 6 (length f) (omega arith), lt-leb (length f) 29 (omega arith))
 
 -- frames that are too long all do the same, whatever they hold: heard, 1 after 11 and 14
-same-received : (σ : Station) (f g : List ℕ) → 30 ≤ length f → 30 ≤ length g → received Provisioner σ f ≡ received Provisioner σ g
+same-received : (σ : Station) (f g : List ℕ) → 30 ≤ length f → 30 ≤ length g → received provisioner σ f ≡ received provisioner σ g
 unfolding received
 same-received σ f g p q = rw (parsed-long f p, parsed-long g q)
 

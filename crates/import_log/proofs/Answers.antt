@@ -18,16 +18,16 @@ use Rattle.pb_adv.specs.Frame.{parsed}
 use Rattle.pb_adv.specs.declared.Parsed.the-variants as P
 use Rattle.pb_adv_writing.specs.Writing.{headerOf, segmentFrame, SegmentAsked}
 use Rattle.pb_adv_writing.proofs.Promises.{parsed-frame}
-use Rattle.links.specs.Links.{isLast, sends}
+use Rattle.links.specs.Links.{provisioner, isLast, sends}
 use Rattle.links.specs.Segments.{OneLink, segmentStep}
 use Rattle.links.specs.Station.{Station, getLink, received, linkAt}
 use Rattle.links.specs.Interleaving.{All}
-use Rattle.links.specs.declared.Side.the-variants.{Provisioner, Device}
+use Rattle.links.specs.declared.Side.the-variants.{Device}
 use Rattle.links.specs.declared.LinkState.the-variants as S
 use Rattle.links.specs.declared.LastDelivered.{LastDelivered}
 use Rattle.links.specs.declared.Answer.{Answer}
 use Rattle.links.specs.declared.Answer.the-variants as A
-use Rattle.links.proofs.Lens.{part-size}
+use Rattle.links.proofs.Lens.{sized-right, part-size}
 use Rattle.links.proofs.Right.{OpenAt, found, goes, same}
 use Rattle.links.proofs.Sockets.{place-below, socket-at}
 use Rattle.provisioning.specs.Message.{messageRead}
@@ -84,9 +84,9 @@ module _ (m : Import) (g : Right (stationIn m)) (s : Socket) (id : ℕ) (t : Tra
   below : place < 8
   below = place-below s 8 (x .numbered)
 
-  opened : OpenAt Provisioner σ place id
+  opened : OpenAt provisioner σ place id
   unfolding getLink
-  opened = record { sized = g .sized; notBad = g .isGood; below = rw (g .count) below; isOpen = x .isOpen; hasId = x .hasId }
+  opened = record { right = sized-right σ (g .sized); notBad = g .isGood; below = rw (g .count) below; isOpen = x .isOpen; hasId = x .hasId }
 
   module _ (octets : List ℕ) (long : length octets ≡ 12) (f : List ℕ) (is : f ≡ segmentFrame id t octets 0) where
     asked : SegmentAsked octets 0
@@ -99,18 +99,18 @@ module _ (m : Import) (g : Right (stationIn m)) (s : Socket) (id : ℕ) (t : Tra
     unfolding getLink
     at-link =
         let one : segN (length octets) ≡ 0 = rw long in
-        let room = part-size (length (σ .links)) σ refl (opened .sized) place (opened .below) in
+        let room = part-size (length (σ .links)) σ refl (g .sized) place (opened .below) in
         rw (← long) (at-once octets t (getLink place σ) (x .awaited) (x .notHalf) (omega arith) one (omega (arith, room)))
 
-    answers : received Provisioner σ f .0 ≡ A.Delivered 12 t
-    answers = ap (λ (r : Answer × Station). r .0) (goes Provisioner σ place id opened t octets 0 asked (x .sent) f is) ∙ at-link .0
+    answers : received provisioner σ f .0 ≡ A.Delivered 12 t
+    answers = ap (λ (r : Answer × Station). r .0) (goes provisioner σ place id opened t octets 0 asked (x .sent) f is) ∙ at-link .0
 
     -- the message stands at the start of its part
-    stands : part (received Provisioner σ f .1 .area) (1469 * place) 12 ≡ octets
+    stands : part (received provisioner σ f .1 .area) (1469 * place) 12 ≡ octets
     unfolding getLink
     stands =
-        part-front (received Provisioner σ f .1 .area) (1469 * place) 12 1469 (omega arith)
-        ∙ ap (λ (y : OneLink). take 12 (y .part)) (same Provisioner σ place id opened t octets 0 asked (x .sent) f is) ∙ at-link .1
+        part-front (received provisioner σ f .1 .area) (1469 * place) 12 1469 (omega arith)
+        ∙ ap (λ (y : OneLink). take 12 (y .part)) (same provisioner σ place id opened t octets 0 asked (x .sent) f is) ∙ at-link .1
 
     writes : (number : ℕ) (c : Capabilities) → messageRead octets ≡ M.Capabilities c
         → heardStep tray (m .area) number f .report ≡ R.Row (recordRow W.Record number (messageOrigin s id t) c)
@@ -118,7 +118,7 @@ module _ (m : Import) (g : Right (stationIn m)) (s : Socket) (id : ℕ) (t : Tra
     writes number c e =
         let n = ap parsed is ∙ parsed-frame id t octets 0 asked in
         let q : place + 1 ≡ s .0 = ap (λ (z : Socket). z .0) (socket-at s 8 (x .numbered)) in
-        rw (n, answers, found Provisioner σ place id opened, stands, e, q)
+        rw (n, answers, found provisioner σ place id opened, stands, e, q)
         (first-recorded (stockAt tray place) (x .noRecord) _ place number (messageOrigin s id t) c)
 
 -- an answer that is awaited is recorded

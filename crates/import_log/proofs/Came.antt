@@ -15,14 +15,13 @@ use Rattle.transactions.specs.declared.Socket.{Socket}
 use Rattle.transactions.specs.declared.TransactionNumber.{TransactionNumber}
 use Rattle.pb_adv.specs.Frame.{parsed}
 use Rattle.pb_adv_writing.specs.Writing.{segmentFrame, messageFrames}
-use Rattle.links.specs.Links.{told}
+use Rattle.links.specs.Links.{provisioner, told}
 use Rattle.links.specs.Station.{Station, getLink, ofSocket, received}
 use Rattle.links.specs.Interleaving.{All, stateAfter, BeforeEach}
-use Rattle.links.specs.Operations.{Operation, receiving, opening, operate, afterAll as operated, OfOctets}
+use Rattle.links.specs.Operations.{Operation, receiving, opening, operate, afterAll as operated, Offered}
 use Rattle.links.specs.Promises.{addressed}
 use Rattle.links.specs.Demand3.{Message}
-use Rattle.links.specs.Demand2.{Receiving, CameByCut, FromCut, Delivery, UsedUnder, OpenedBy}
-use Rattle.links.specs.declared.Side.the-variants.{Provisioner}
+use Rattle.links.specs.Demand2.{Receiving, CameByCut, FromCut, Delivery, UsedUnder, OpenedBy, Opened}
 use Rattle.links.specs.declared.Found.the-variants.{At}
 use Rattle.links.specs.declared.Answer.the-variants as A
 use Rattle.links.proofs.Interleaving.{after-append}
@@ -55,7 +54,7 @@ ends-in (b ∷ a) c (w ∷ x) d z e =
     let r = ends-in a c x d z tail in
     record { mid = r .mid; front = (λ i. head i ∷ r .front i); back = r .back }
 
-all-front : (a b : List Operation) → All OfOctets (a ++ b) → All OfOctets a
+all-front : (a b : List Operation) → All (Offered provisioner) (a ++ b) → All (Offered provisioner) a
 all-front [] b h = tt
 all-front (c ∷ a) b h = (h .0, all-front a b (h .1))
 
@@ -106,7 +105,7 @@ module _ (before : List (List ℕ)) (line : List ℕ) (isOne : isFrame line ≡ 
   past = operationsFrom atFirst before
 
   -- every operation since the opening was with the socket in use
-  module _ (s : Socket) (id : ℕ) (m : Message) (b : CameByCut Provisioner σ s id m (past ++ (receiving f ∷ []))) (w : OpenedBy Provisioner σ s id (b .before)) where
+  module _ (s : Socket) (id : ℕ) (m : Message) (b : CameByCut provisioner σ s id m (past ++ (receiving f ∷ []))) (w : OpenedBy provisioner σ s id (opening s id) (b .before)) where
     abbrev Used : Station → Type 0
     Used τ = UsedUnder id (ofSocket s τ)
 
@@ -119,17 +118,17 @@ module _ (before : List (List ℕ)) (line : List ℕ) (isOne : isFrame line ≡ 
     receiving-used : (τ : Station) → Receiving id (m .number) (length (m .octets)) (ofSocket s τ) → Used τ
     receiving-used τ r = record { isUsed = rw (r .under .isOpen); hasId = r .under .hasId }
 
-    from-start : BeforeEach (operate Provisioner) Used (operated Provisioner σ (b .before)) (b .start ∷ b .since)
+    from-start : BeforeEach (operate provisioner) Used (operated provisioner σ (b .before)) (b .start ∷ b .since)
     from-start = (
       record { isUsed = rw (b .opened .isOpen); hasId = b .opened .hasId },
-      before-map (operate Provisioner) Used _ receiving-used _ (b .since) (rw (after-append (operate Provisioner) σ (b .before) (b .start ∷ [])) at (b .held)),
+      before-map (operate provisioner) Used _ receiving-used _ (b .since) (rw (after-append (operate provisioner) σ (b .before) (b .start ∷ [])) at (b .held)),
     )
 
-    since-opening : BeforeEach (operate Provisioner) Used (operated Provisioner σ (w .before ++ (opening s id ∷ []))) (w .since ++ ends .mid)
+    since-opening : BeforeEach (operate provisioner) Used (operated provisioner σ (w .before ++ (opening s id ∷ []))) (w .since ++ ends .mid)
     since-opening =
-        let joined = after-append (operate Provisioner) σ (w .before ++ (opening s id ∷ [])) (w .since) in
-        before-append (operate Provisioner) Used _ (w .since) (ends .mid) (w .held)
-        (before-front (operate Provisioner) Used _ (ends .mid) (receiving f ∷ [])
+        let joined = after-append (operate provisioner) σ (w .before ++ (opening s id ∷ [])) (w .since) in
+        before-append (operate provisioner) Used _ (w .since) (ends .mid) (w .held)
+        (before-front (operate provisioner) Used _ (ends .mid) (receiving f ∷ [])
         (rw (← joined, append-snoc (w .before) (opening s id) (w .since), ← (w .split), ← (ends .back)) from-start))
 
     came-since : OpeningOf before s id (w .since ++ ends .mid)
@@ -148,7 +147,7 @@ module _ (before : List (List ℕ)) (line : List ℕ) (isOne : isFrame line ≡ 
             record { line = line; among = Memᴰ·append-right (came-since .opened .since) (List·Memᴰ·head refl); isHexadecimal = isOne; octets = cc }
 
   abbrev τ : Station
-  τ = operated Provisioner σ past
+  τ = operated provisioner σ past
 
   -- the message that the line delivers, at a station
   pub record Came (ρ : Station) (n : ℕ) (t : TransactionNumber) : Type 0 where
@@ -157,18 +156,18 @@ module _ (before : List (List ℕ)) (line : List ℕ) (isOne : isFrame line ≡ 
     pub octets : List ℕ
     pub opened : LatestOpening before socket id
     pub cut : (g : List ℕ) → List·Memᴰ g (messageFrames id t octets) → HeardIn (opened .since ++ (line ∷ [])) g
-    pub isFor : addressed (ρ .links) (parsed f) ≡ At (socketPlace socket)
-    pub stands : part (received Provisioner ρ f .1 .area) (1469 * socketPlace socket) n ≡ octets
+    pub isFor : addressed provisioner (ρ .links) (parsed f) ≡ At (socketPlace socket)
+    pub stands : part (received provisioner ρ f .1 .area) (1469 * socketPlace socket) n ≡ octets
     pub origin : frameOrigin (At (socketPlace socket)) (parsed f) ≡ messageOrigin socket id t
     pub index : ℕ
     pub inside : index ≤ segN (length octets)
     pub frame : f ≡ segmentFrame id t octets index
 
-  module _ (n : ℕ) (t : TransactionNumber) (s : Socket) (numbered : isSocket s 8 ≡ true) (at : addressed (τ .links) (parsed f) ≡ At (socketPlace s))
+  module _ (n : ℕ) (t : TransactionNumber) (s : Socket) (numbered : isSocket s 8 ≡ true) (at : addressed provisioner (τ .links) (parsed f) ≡ At (socketPlace s))
       (u : Delivers τ f (frame-octets line isOne) (socketPlace s) n t) (m : Message) (sameNumber : m .number ≡ t)
-      (same : part (received Provisioner τ f .1 .area) (1469 * socketPlace s) n ≡ m .octets)
-      (b : CameByCut Provisioner σ s (ofSocket s τ .link .id) m (past ++ (receiving f ∷ [])))
-      (w : OpenedBy Provisioner σ s (ofSocket s τ .link .id) (b .before)) where
+      (same : part (received provisioner τ f .1 .area) (1469 * socketPlace s) n ≡ m .octets)
+      (b : CameByCut provisioner σ s (ofSocket s τ .link .id) m (past ++ (receiving f ∷ [])))
+      (w : OpenedBy provisioner σ s (ofSocket s τ .link .id) (opening s (ofSocket s τ .link .id)) (b .before)) where
     abbrev its : ℕ
     its = ofSocket s τ .link .id
 
@@ -192,11 +191,11 @@ module _ (before : List (List ℕ)) (line : List ℕ) (isOne : isFrame line ≡ 
       frame = rw (← same, ← (u .hasId)) (u .frame);
     }
 
-  module _ (n : ℕ) (t : TransactionNumber) (delivered : received Provisioner τ f .0 ≡ A.Delivered n t) where
-    delivery : Delivery Provisioner σ past f (n ∷ t .0 ∷ [])
-    delivery = only Provisioner σ past (lines-octets atFirst before) f (frame-octets line isOne) (n ∷ t .0 ∷ []) (ap told delivered)
+  module _ (n : ℕ) (t : TransactionNumber) (delivered : received provisioner τ f .0 ≡ A.Delivered n t) where
+    delivery : Delivery provisioner σ past f (n ∷ t .0 ∷ [])
+    delivery = only provisioner σ past (lines-octets atFirst before) f (frame-octets line isOne) (n ∷ t .0 ∷ []) (ap told delivered)
 
-    from-cut : FromCut Provisioner σ (delivery .socket) past f (n ∷ t .0 ∷ [])
+    from-cut : FromCut provisioner σ (delivery .socket) past f (n ∷ t .0 ∷ [])
     from-cut = delivery .only (rw (at-start (socketPlace (delivery .socket))))
 
     abbrev m : Message
@@ -209,22 +208,22 @@ module _ (before : List (List ℕ)) (line : List ℕ) (isOne : isFrame line ≡ 
     same-number = let v = from-cut .valued in let q : m .number .0 ≡ t .0 = cc in λ i. record { 0 = q i }
 
     -- its octets are those that stand in the part
-    same-octets : part (received Provisioner τ f .1 .area) (1469 * socketPlace (delivery .socket)) n ≡ m .octets
+    same-octets : part (received provisioner τ f .1 .area) (1469 * socketPlace (delivery .socket)) n ≡ m .octets
     unfolding getLink
     same-octets =
-        let area = received Provisioner τ f .1 .area in
+        let area = received provisioner τ f .1 .area in
         let s = socketPlace (delivery .socket) in
         let w : take (length (m .octets)) (part area (1469 * s) 1469) ≡ m .octets =
-        rw (after-append (operate Provisioner) σ past (receiving f ∷ [])) at (from-cut .stands) in
+        rw (after-append (operate provisioner) σ past (receiving f ∷ [])) at (from-cut .stands) in
         let few : length (m .octets) ≤ 1469 = omega (arith, simp length-take at (ap length w)) in
         ap (λ (i : ℕ). part area (1469 * s) i) long ∙ (sym (take-take (length (m .octets)) 1469 (drop (1469 * s) area) few) ∙ w)
 
-    opened : OpenedBy Provisioner σ (delivery .socket) (ofSocket (delivery .socket) τ .link .id) (from-cut .came .before)
+    opened : Opened provisioner σ (delivery .socket) (ofSocket (delivery .socket) τ .link .id) (from-cut .came .before)
     opened =
         let b = from-cut .came in
-        let octets : All OfOctets (past ++ (receiving f ∷ [])) = all-append past (receiving f ∷ []) (lines-octets atFirst before) (frame-octets line isOne, tt) in
-        subst (λ (i : ℕ). OpenedBy Provisioner σ (delivery .socket) i (b .before)) (b .opened .hasId)
-        (opened-since Provisioner σ (delivery .socket) (delivery .numbered) (rw (at-start (socketPlace (delivery .socket)))) (b .before)
+        let octets : All (Offered provisioner) (past ++ (receiving f ∷ [])) = all-append past (receiving f ∷ []) (lines-octets atFirst before) (frame-octets line isOne, tt) in
+        subst (λ (i : ℕ). Opened provisioner σ (delivery .socket) i (b .before)) (b .opened .hasId)
+        (opened-since provisioner σ (delivery .socket) (delivery .numbered) (rw (at-start (socketPlace (delivery .socket)))) (b .before)
         (all-front (b .before) (b .start ∷ b .since) (rw (b .split) at octets)) (rw (b .opened .isOpen)))
 
     came-now : Came τ n t
@@ -232,6 +231,6 @@ module _ (before : List (List ℕ)) (line : List ℕ) (isOne : isFrame line ≡ 
         came-in n t (delivery .socket) (delivery .numbered) (delivery .isFor)
         (delivers τ f (frame-octets line isOne) (socketPlace (delivery .socket)) n t (delivery .isFor) delivered) m same-number same-octets (from-cut .came) opened
 
-  pub came : (n : ℕ) (t : TransactionNumber) → received Provisioner (stationIn (afterAll atFirst before)) f .0 ≡ A.Delivered n t
+  pub came : (n : ℕ) (t : TransactionNumber) → received provisioner (stationIn (afterAll atFirst before)) f .0 ≡ A.Delivered n t
       → Came (stationIn (afterAll atFirst before)) n t
-  came n t = subst (λ (ρ : Station). received Provisioner ρ f .0 ≡ A.Delivered n t → Came ρ n t) (sym (stations-after atFirst before)) (came-now n t)
+  came n t = subst (λ (ρ : Station). received provisioner ρ f .0 ≡ A.Delivered n t → Came ρ n t) (sym (stations-after atFirst before)) (came-now n t)

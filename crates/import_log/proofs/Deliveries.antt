@@ -19,10 +19,11 @@ use Rattle.pb_adv.specs.declared.Segment.{Segment}
 use Rattle.pb_adv.specs.declared.Parsed.the-variants as P
 use Rattle.pb_adv.proofs.Promises.{segments-are-encodings}
 use Rattle.pb_adv_writing.specs.Writing.{headerOf, segmentFrame}
+use Rattle.links.specs.Links.{provisioner}
 use Rattle.links.specs.Good.{goodLink, good}
 use Rattle.links.specs.Segments.{OneLink, entered}
-use Rattle.links.specs.Station.{Station, getLink, frameStep, atSocket, received}
-use Rattle.links.specs.Promises.{Sized, addressed}
+use Rattle.links.specs.Station.{Station, getLink, frameStep, isRight, received}
+use Rattle.links.specs.Promises.{addressed}
 use Rattle.links.specs.declared.Side.the-variants.{Provisioner}
 use Rattle.links.specs.declared.LinkState.the-variants as S
 use Rattle.links.specs.declared.HalfMessage.{HalfMessage}
@@ -33,10 +34,10 @@ use Rattle.links.proofs.Deliver.{segment-fits-in, segment-same}
 use Rattle.links.proofs.View.{headerAt, IfDelivered, Origin, held, begins, New}
 use Rattle.links.proofs.Sound.{Ends, isWhole, isWrong, isKept, ends, keeps, enters, frame-does}
 use Rattle.links.proofs.Sound as Link
-use Rattle.links.proofs.Lens.{part-size, get-put, good-get}
+use Rattle.links.proofs.Lens.{Sized, right-sized, part-size, get-put, good-get}
 use Rattle.links.proofs.Keep.{message-out, open-out, good-as}
 use Rattle.links.proofs.Frames.{found-id}
-use Rattle.links.proofs.Promises.{refuses, steps, does, stepped-keeps}
+use Rattle.links.proofs.Promises.{placed, provisioner-step, refuses, steps, does, frame-step-keeps}
 use Rattle.links.proofs.Promises as Promise
 
 -- ---- a new segment of a message that is whole with it
@@ -91,7 +92,7 @@ module _ (x : OneLink) (size : length (x .part) ≡ 1469) (linkGood : goodLink P
 
 module _ (σ : Station) (f : List ℕ) (o : Octets f) where
   abbrev done : Answer × Station
-  done = received Provisioner σ f
+  done = received provisioner σ f
 
   -- the octets that stand at the start of the part of place s
   abbrev pub standing : ℕ → ℕ → List ℕ
@@ -110,11 +111,14 @@ module _ (σ : Station) (f : List ℕ) (o : Octets f) where
     pub inside : index ≤ segN n
     pub frame : f ≡ segmentFrame (segment .id) t (standing s n) index
 
-  module _ (s : ℕ) (sized : Sized σ) (stateGood : good Provisioner (σ .links) ≡ true) (below : s < length (σ .links))
-      (at : addressed (σ .links) (parsed f) ≡ At s)
-      (q : done ≡ atSocket Provisioner σ (At s) f (parsed f)) (n : ℕ) (t : TransactionNumber) (delivered : done .0 ≡ A.Delivered n t) where
+  module _ (s : ℕ) (right : isRight provisioner σ ≡ true) (stateGood : good Provisioner (σ .links) ≡ true) (below : s < length (σ .links))
+      (at : addressed provisioner (σ .links) (parsed f) ≡ At s)
+      (q : done ≡ placed σ s (frameStep Provisioner (getLink s σ) (getLink s σ .link .state) f (parsed f))) (n : ℕ) (t : TransactionNumber) (delivered : done .0 ≡ A.Delivered n t) where
     abbrev x : OneLink
     x = getLink s σ
+
+    sized : Sized σ
+    sized = right-sized provisioner σ right
 
     abbrev r : Answer × OneLink
     r = frameStep Provisioner x (x .link .state) f (parsed f)
@@ -126,7 +130,7 @@ module _ (σ : Station) (f : List ℕ) (o : Octets f) where
     unfolding getLink
     part-after =
         ap (λ (y : OneLink). y .part) (ap (λ (p : Answer × Station). getLink s (p .1)) q
-        ∙ get-put (length (σ .links)) σ refl sized s below (r .1) (stepped-keeps Provisioner σ f s o sized stateGood below .part))
+        ∙ get-put (length (σ .links)) σ refl sized s below (r .1) (frame-step-keeps provisioner σ f s o right stateGood below .part))
 
     stands : n ≤ 1469 → standing s n ≡ take n (r .1 .part)
     stands few = sym (take-take n 1469 (drop (1469 * s) (done .1 .area)) few) ∙ ap (take n) part-after
@@ -176,11 +180,11 @@ module _ (σ : Station) (f : List ℕ) (o : Octets f) where
         of (isWrong end) = let a = sym (ap (λ (p : Answer × OneLink). p .0) (w ∙ end)) ∙ answer in let z : _≡_ {A = ℕ} 0 1 = cc in absurd (omega arith)
         of (isKept end) = let a = sym (ap (λ (p : Answer × OneLink). p .0) (w ∙ end)) ∙ answer in let z : _≡_ {A = ℕ} 0 1 = cc in absurd (omega arith)
 
-  pub delivers : (s n : ℕ) (t : TransactionNumber) → addressed (σ .links) (parsed f) ≡ At s → done .0 ≡ A.Delivered n t → Delivers s n t
-  delivers s n t at e = of (does Provisioner σ f)
+  pub delivers : (s n : ℕ) (t : TransactionNumber) → addressed provisioner (σ .links) (parsed f) ≡ At s → done .0 ≡ A.Delivered n t → Delivers s n t
+  delivers s n t at e = of (does provisioner σ f)
     where
-      of : Promise.Does Provisioner σ f (parsed f) done → Delivers s n t
+      of : Promise.Does provisioner σ f (parsed f) done → Delivers s n t
       of (refuses a q) = let w = sym (ap (λ (p : Answer × Station). p .0) q) ∙ e in let z : _≡_ {A = ℕ} 0 1 = cc in absurd (omega arith)
-      of (steps j sized stateGood below this q) =
+      of (steps j right stateGood below this q) =
           let same : j ≡ s = cc in
-          subst (λ (i : ℕ). Delivers i n t) same (from j sized stateGood below this q n t e (frame-does (getLink j σ) f o Provisioner))
+          subst (λ (i : ℕ). Delivers i n t) same (from j right stateGood below this (q ∙ ap (placed σ j) (provisioner-step (getLink j σ) f (parsed f))) n t e (frame-does (getLink j σ) f o Provisioner))

@@ -11,7 +11,7 @@ use Rattle.transactions.specs.Numbers.{socketPlace}
 use Rattle.transactions.specs.declared.Socket.{Socket}
 use Rattle.pb_adv.specs.Frame.{parsed}
 use Rattle.pb_adv.specs.declared.Parsed.the-variants as P
-use Rattle.links.specs.Links.{blankWith, inUse, find}
+use Rattle.links.specs.Links.{provisioner, blankWith, inUse, find}
 use Rattle.links.specs.Segments.{OneLink}
 use Rattle.links.specs.Station.{Station, noLink, getLink, putLink, frameStep, received, linkAt}
 use Rattle.links.specs.declared.Side.the-variants.{Provisioner}
@@ -62,7 +62,7 @@ module _ (σ : Station) (g : Right σ) (s id : ℕ) (below : s < 8)
   found : find (σ .links) id ≡ At s
   found = find-at (σ .links) id s (good-out Provisioner (σ .links) (g .isGood) .1) (rw (g .count) below) (rw (used, hasId) (eq-eqb id id refl))
 
-  ack-opens : (f : List ℕ) → parsed f ≡ P.Ack id → getD (received Provisioner σ f .1 .links) s noLink .state ≡ S.Open
+  ack-opens : (f : List ℕ) → parsed f ≡ P.Ack id → getD (received provisioner σ f .1 .links) s noLink .state ≡ S.Open
   unfolding received getLink putLink
   ack-opens f e =
       rw (eq-eqb (length (σ .area)) (1469 * length (σ .links)) (g .sized), g .isGood, e, found)

@@ -10,7 +10,7 @@ use Rattle.octets.proofs.Tables.{other-told}
 use Rattle.octets.proofs.Tests.{cases}
 use Rattle.transactions.specs.Numbers.{isSocket}
 use Rattle.transactions.specs.declared.Socket.{Socket}
-use Rattle.links.specs.Links.{inUse, told}
+use Rattle.links.specs.Links.{provisioner, inUse, told}
 use Rattle.links.specs.Good.{good}
 use Rattle.links.specs.Station.{Station, getLink, ofSocket, linkAt, localOpen}
 use Rattle.links.specs.Interleaving.{stateAfter, BeforeEach}
@@ -108,9 +108,9 @@ pub record OpeningOf (lines : List (List ℕ)) (s : Socket) (id : ℕ) (rest : L
   pub others : operationsFrom (after (afterAll atFirst (opened .before)) (opened .opening)) (opened .since) ≡ rest
 
 module _ (lines : List (List ℕ)) (s : Socket) (id : ℕ) (front rest : List Operation) (split : operationsFrom atFirst lines ≡ front ++ (opening s id ∷ rest))
-    (done : told (operate Provisioner (operated Provisioner (stationIn atFirst) front) (opening s id) .0) ≡ answered "done" [])
-    (held : BeforeEach (operate Provisioner) (λ τ. UsedUnder id (ofSocket s τ))
-    (operated Provisioner (stationIn atFirst) (front ++ (opening s id ∷ []))) rest) where
+    (done : told (operate provisioner (operated provisioner (stationIn atFirst) front) (opening s id) .0) ≡ answered "done" [])
+    (held : BeforeEach (operate provisioner) (λ τ. UsedUnder id (ofSocket s τ))
+    (operated provisioner (stationIn atFirst) (front ++ (opening s id ∷ []))) rest) where
   z : SplitAt atFirst lines front (opening s id) rest
   z = split-at atFirst lines front (opening s id) rest split
 
@@ -121,13 +121,13 @@ module _ (lines : List (List ℕ)) (s : Socket) (id : ℕ) (front rest : List Op
   abbrev m′ : Import
   m′ = after m (z .line)
 
-  station-at : stationIn m ≡ operated Provisioner (stationIn atFirst) front
-  station-at = stations-after atFirst (z .before) ∙ ap (operated Provisioner (stationIn atFirst)) (z .earlier)
+  station-at : stationIn m ≡ operated provisioner (stationIn atFirst) front
+  station-at = stations-after atFirst (z .before) ∙ ap (operated provisioner (stationIn atFirst)) (z .earlier)
 
-  station-behind : stationIn m′ ≡ operated Provisioner (stationIn atFirst) (front ++ (opening s id ∷ []))
+  station-behind : stationIn m′ ≡ operated provisioner (stationIn atFirst) (front ++ (opening s id ∷ []))
   station-behind =
-      station-after m (z .line) ∙ ap (operated Provisioner (stationIn m)) (z .is) ∙ ap (λ (σ : Station). operated Provisioner σ (opening s id ∷ [])) station-at
-      ∙ sym (after-append (operate Provisioner) (stationIn atFirst) front (opening s id ∷ []))
+      station-after m (z .line) ∙ ap (operated provisioner (stationIn m)) (z .is) ∙ ap (λ (σ : Station). operated provisioner σ (opening s id ∷ [])) station-at
+      ∙ sym (after-append (operate provisioner) (stationIn atFirst) front (opening s id ∷ []))
 
   opens-at : Opens m (z .line) s id
   opens-at =
@@ -147,7 +147,7 @@ module _ (lines : List (List ℕ)) (s : Socket) (id : ℕ) (front rest : List Op
       let all : rest ≡ operationsFrom m′ between ++ (c ∷ operationsFrom (after (afterAll m′ between) line) later) =
       sym (z .others) ∙ ap (operationsFrom m′) e ∙ operations-append m′ between (line ∷ later)
       ∙ ap (λ (l : List Operation). operationsFrom m′ between ++ (l ++ operationsFrom (after (afterAll m′ between) line) later)) q in
-      let w = before-at (operate Provisioner) (λ τ. UsedUnder id (ofSocket s τ)) (stationIn m′) _ station-behind rest held (operationsFrom m′ between) c _ all in
+      let w = before-at (operate provisioner) (λ τ. UsedUnder id (ofSocket s τ)) (stationIn m′) _ station-behind rest held (operationsFrom m′ between) c _ all in
       subst (λ (σ : Station). inUse (linkAt (σ .links) s .state) ≡ true) (sym (stations-after m′ between)) (w .isUsed)
 
   latest : (between : List (List ℕ)) (line : List ℕ) (later : List (List ℕ)) → z .since ≡ between ++ (line ∷ later)

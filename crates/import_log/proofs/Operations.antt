@@ -14,17 +14,18 @@ use Rattle.hex.proofs.Laws.{digit-at, octets-are-octets}
 use Rattle.pb_adv.specs.Frame.{parsed}
 use Rattle.transactions.specs.Numbers.{isSocket}
 use Rattle.transactions.specs.declared.Socket.{Socket}
-use Rattle.links.specs.Links.{blank}
+use Rattle.links.specs.Links.{provisioner, blank}
 use Rattle.links.specs.Good.{good}
 use Rattle.links.specs.Station.{Station, getLink, received, localOpen, localSend, localClose}
 use Rattle.links.specs.Interleaving.{All}
-use Rattle.links.specs.Operations.{Operation, receiving, opening, sending, closing, operate, afterAll as operated, OfOctets}
-use Rattle.links.specs.Promises.{Sized, addressed}
+use Rattle.links.specs.Operations.{Operation, receiving, opening, sending, closing, operate, afterAll as operated, Offered}
+use Rattle.links.specs.Promises.{addressed}
 use Rattle.links.specs.declared.Side.the-variants.{Provisioner}
 use Rattle.links.specs.declared.Found.{Found}
 use Rattle.links.specs.declared.Found.the-variants.{At, Nowhere}
 use Rattle.links.specs.declared.Answer.{Answer}
 use Rattle.links.proofs.Interleaving.{after-append}
+use Rattle.links.proofs.Lens.{Sized}
 use Rattle.links.proofs.Promises.{receiving-keeps-good, receiving-keeps-size, operate-count, local-calls}
 use Rattle.provisioning.specs.Message.{messageRead}
 use Rattle.provisioning.specs.declared.Message.{Message}
@@ -60,7 +61,7 @@ askedOperations (A.Send socket n) = sending socket n ∷ []
 askedOperations (A.Close socket) = closing socket ∷ []
 
 abbrev pub askedBy : Tray → List ℕ → Asked
-askedBy tray f = sentOf (tray .links) (addressed (tray .links) (parsed f)) (parsed f)
+askedBy tray f = sentOf (tray .links) (addressed provisioner (tray .links) (parsed f)) (parsed f)
 
 abbrev pub sentOperations : Tray → List ℕ → List Operation
 sentOperations tray f = askedOperations (askedBy tray f)
@@ -167,12 +168,12 @@ read-links (R.Refused n) tray s line origin m = refl
 read-links R.Other tray s line origin m = refl
 
 heard-links : (tray : Tray) (area : List ℕ) (number : ℕ) (f : List ℕ)
-    → heardStep tray area number f .tray .links ≡ received Provisioner (stationOf tray area) f .1 .links
+    → heardStep tray area number f .tray .links ≡ received provisioner (stationOf tray area) f .1 .links
 unfolding heardStep
 heard-links tray area number f = by (outcomeOf (done .0))
   where
     done : Answer × Station
-    done = received Provisioner (stationOf tray area) f
+    done = received provisioner (stationOf tray area) f
 
     at : (found : Found) (t : Tray) (n : ℕ) → deliveredStep found (parsed f) t (done .1 .area) number n .tray .links ≡ t .links
     at (At s) t n = let m = messageRead _ in read-links (readingOf m) t s number (frameOrigin (At s) (parsed f)) m
@@ -180,7 +181,7 @@ heard-links tray area number f = by (outcomeOf (done .0))
 
     by : (o : Outcome) → heardBy o (tray .links) (parsed f) (withLinks tray (done .1 .links)) (done .1 .area) number .tray .links ≡ done .1 .links
     by (O.Refused n) = refl
-    by (O.Delivered n t) = at (addressed (tray .links) (parsed f)) _ n
+    by (O.Delivered n t) = at (addressed provisioner (tray .links) (parsed f)) _ n
     by O.Nothing = refl
 
 open-links : (tray : Tray) (number : ℕ) (s : Socket) (id : ℕ) → openedStep tray number s id .tray .links ≡ localOpen Provisioner (tray .links) s id .1
@@ -198,14 +199,14 @@ local-links (O.Delivered n t) tray number origin = refl
 local-links O.Nothing tray number origin = refl
 
 sent-station : (tray : Tray) (area : List ℕ) (number : ℕ) (f : List ℕ)
-    → stationOf (sentStep tray number f .tray) area ≡ operated Provisioner (stationOf tray area) (sentOperations tray f)
+    → stationOf (sentStep tray number f .tray) area ≡ operated provisioner (stationOf tray area) (sentOperations tray f)
 unfolding sentStep
 sent-station tray area number f = by (askedBy tray f)
   where
     origin : Origin
-    origin = frameOrigin (addressed (tray .links) (parsed f)) (parsed f)
+    origin = frameOrigin (addressed provisioner (tray .links) (parsed f)) (parsed f)
 
-    by : (a : Asked) → stationOf (sentBy a tray number origin .tray) area ≡ operated Provisioner (stationOf tray area) (askedOperations a)
+    by : (a : Asked) → stationOf (sentBy a tray number origin .tray) area ≡ operated provisioner (stationOf tray area) (askedOperations a)
     by A.Nothing = refl
     by (A.Refused n) = refl
     by (A.Send s n) =
@@ -215,14 +216,14 @@ sent-station tray area number f = by (askedBy tray f)
         let r = localClose Provisioner (tray .links) s in
         λ i. record { links = local-links (outcomeOf (r .0)) (withLinks tray (r .1)) number origin i; area = area }
 
-pub station-after : (m : Import) (line : List ℕ) → stationIn (after m line) ≡ operated Provisioner (stationIn m) (operationsIn (m .log .tray) line)
+pub station-after : (m : Import) (line : List ℕ) → stationIn (after m line) ≡ operated provisioner (stationIn m) (operationsIn (m .log .tray) line)
 unfolding lineStep lineArea unheardStep sentLine otherStep plainStep operationsIn heardArea
 station-after m line =
     let tray = m .log .tray in
     cases (isFrame line)
     (λ e. rw e (λ i. record {
       links = heard-links tray (m .area) (numberIn m) (octetsOf line) i;
-      area = received Provisioner (stationIn m) (octetsOf line) .1 .area;
+      area = received provisioner (stationIn m) (octetsOf line) .1 .area;
     }))
     (λ e. rw e (cases (isMarkedSent line)
     (λ g. rw g (cases (isFrame (drop 1 line)) (λ h. rw h (sent-station tray (m .area) (numberIn m) (octetsOf (drop 1 line)))) (λ h. rw h)))
@@ -230,17 +231,17 @@ station-after m line =
     (λ h. rw h (λ i. record { links = open-links tray (numberIn m) (socketIn line) (idIn line) i; area = m .area }))
     (λ h. rw h (cases (isPassed line) (λ p. rw p) (λ p. rw p)))))))
 
-pub heard-station : (m : Import) (line : List ℕ) → isFrame line ≡ true → stationIn (after m line) ≡ received Provisioner (stationIn m) (octetsOf line) .1
+pub heard-station : (m : Import) (line : List ℕ) → isFrame line ≡ true → stationIn (after m line) ≡ received provisioner (stationIn m) (octetsOf line) .1
 unfolding operationsIn
 heard-station m line e = station-after m line ∙ rw e
 
-pub stations-after : (m : Import) (lines : List (List ℕ)) → stationIn (afterAll m lines) ≡ operated Provisioner (stationIn m) (operationsFrom m lines)
+pub stations-after : (m : Import) (lines : List (List ℕ)) → stationIn (afterAll m lines) ≡ operated provisioner (stationIn m) (operationsFrom m lines)
 unfolding operationsFrom
 stations-after m [] = refl
 stations-after m (line ∷ lines) =
     stations-after (after m line) lines
     ∙ rw (station-after m line)
-    (sym (after-append (operate Provisioner) (stationIn m) (operationsIn (m .log .tray) line) (operationsFrom (after m line) lines)))
+    (sym (after-append (operate provisioner) (stationIn m) (operationsIn (m .log .tray) line) (operationsFrom (after m line) lines)))
 
 -- ---- lines behind lines
 
@@ -260,21 +261,21 @@ operations-append m (line ∷ a) b =
 pub frame-octets : (line : List ℕ) → isFrame line ≡ true → Octets (octetsOf line)
 frame-octets line e = octets-are-octets line (frame-digits line e)
 
-pub all-append : (a b : List Operation) → All OfOctets a → All OfOctets b → All OfOctets (a ++ b)
+pub all-append : (a b : List Operation) → All (Offered provisioner) a → All (Offered provisioner) b → All (Offered provisioner) (a ++ b)
 all-append [] b h k = k
 all-append (c ∷ a) b h k = (h .0, all-append a b (h .1) k)
 
-pub line-octets : (tray : Tray) (line : List ℕ) → All OfOctets (operationsIn tray line)
+pub line-octets : (tray : Tray) (line : List ℕ) → All (Offered provisioner) (operationsIn tray line)
 line-octets tray line = of (does tray line)
   where
-    of : Does tray line → All OfOctets (operationsIn tray line)
+    of : Does tray line → All (Offered provisioner) (operationsIn tray line)
     of (hears e q) = rw q (frame-octets line e, tt)
-    of (opens e q) = rw q (tt, tt)
+    of (opens e q) = rw q (refl, tt)
     of (sends s n q) = rw q (tt, tt)
     of (closes s h g q) = rw q (tt, tt)
     of (nothing q) = rw q tt
 
-pub lines-octets : (m : Import) (lines : List (List ℕ)) → All OfOctets (operationsFrom m lines)
+pub lines-octets : (m : Import) (lines : List (List ℕ)) → All (Offered provisioner) (operationsFrom m lines)
 unfolding operationsFrom
 lines-octets m [] = tt
 lines-octets m (line ∷ lines) =
@@ -288,24 +289,24 @@ pub record Right (σ : Station) : Type 0 where
   pub sized : Sized σ
   pub isGood : good Provisioner (σ .links) ≡ true
 
-right-after-one : (σ : Station) (c : Operation) → OfOctets c → Right σ → Right (operate Provisioner σ c .1)
-right-after-one σ c o r = record { count = operate-count Provisioner σ c ∙ r .count; sized = size c o; isGood = stays c o }
+right-after-one : (σ : Station) (c : Operation) → Offered provisioner c → Right σ → Right (operate provisioner σ c .1)
+right-after-one σ c o r = record { count = operate-count provisioner σ c ∙ r .count; sized = size c o; isGood = stays c o }
   where
-    size : (c : Operation) → OfOctets c → Sized (operate Provisioner σ c .1)
-    size (receiving f) o = receiving-keeps-size Provisioner σ f o (r .sized)
-    size (opening s id) o = r .sized ∙ ap (λ (n : ℕ). 1469 * n) (sym (operate-count Provisioner σ (opening s id)))
-    size (sending s n) o = r .sized ∙ ap (λ (n : ℕ). 1469 * n) (sym (operate-count Provisioner σ (sending s n)))
-    size (closing s) o = r .sized ∙ ap (λ (n : ℕ). 1469 * n) (sym (operate-count Provisioner σ (closing s)))
+    size : (c : Operation) → Offered provisioner c → Sized (operate provisioner σ c .1)
+    size (receiving f) o = receiving-keeps-size provisioner σ f o (r .sized)
+    size (opening s id) o = r .sized ∙ ap (λ (n : ℕ). 1469 * n) (sym (operate-count provisioner σ (opening s id)))
+    size (sending s n) o = r .sized ∙ ap (λ (n : ℕ). 1469 * n) (sym (operate-count provisioner σ (sending s n)))
+    size (closing s) o = r .sized ∙ ap (λ (n : ℕ). 1469 * n) (sym (operate-count provisioner σ (closing s)))
 
-    stays : (c : Operation) → OfOctets c → good Provisioner (operate Provisioner σ c .1 .links) ≡ true
-    stays (receiving f) o = receiving-keeps-good Provisioner σ f o (r .isGood)
+    stays : (c : Operation) → Offered provisioner c → good Provisioner (operate provisioner σ c .1 .links) ≡ true
+    stays (receiving f) o = receiving-keeps-good provisioner σ f o (r .isGood)
     stays (opening s id) o = local-calls .opening s id .keeps-good (σ .links) (r .isGood)
     stays (sending s n) o = local-calls .sending Provisioner s n .keeps-good (σ .links) (r .isGood)
     stays (closing s) o = local-calls .closing Provisioner s .keeps-good (σ .links) (r .isGood)
 
-right-after : (σ : Station) (operations : List Operation) → All OfOctets operations → Right σ → Right (operated Provisioner σ operations)
+right-after : (σ : Station) (operations : List Operation) → All (Offered provisioner) operations → Right σ → Right (operated provisioner σ operations)
 right-after σ [] o r = r
-right-after σ (c ∷ operations) o r = right-after (operate Provisioner σ c .1) operations (o .1) (right-after-one σ c (o .0) r)
+right-after σ (c ∷ operations) o r = right-after (operate provisioner σ c .1) operations (o .1) (right-after-one σ c (o .0) r)
 
 right-at-first : Right (stationIn atFirst)
 unfolding good

@@ -19,8 +19,8 @@ use Rattle.transactions.specs.declared.Socket.{Socket}
 use Rattle.transactions.specs.declared.TransactionNumber.{TransactionNumber}
 use Rattle.pb_adv.specs.Frame.{parsed, segmentOctets}
 use Rattle.pb_adv_writing.specs.Writing.{headerOf, segmentFrame, messageFrames}
+use Rattle.links.specs.Links.{provisioner}
 use Rattle.links.specs.Station.{received}
-use Rattle.links.specs.declared.Side.the-variants.{Provisioner}
 use Rattle.links.specs.declared.Found.the-variants.{At}
 use Rattle.links.proofs.Frames.{in-cut}
 use Rattle.provisioning.specs.Message.{messageRead, told}
@@ -91,7 +91,7 @@ module _ (before : List (List ℕ)) (line : List ℕ) (row : Row) where
 
     read : messageRead (c .octets) ≡ readFrom m line d
     read =
-        let area = received Provisioner (stationIn m) (octetsOf line) .1 .area in
+        let area = received provisioner (stationIn m) (octetsOf line) .1 .area in
         sym (ap (λ (i : ℕ). messageRead (part area (1469 * i) (d .long))) place ∙ ap messageRead (c .stands))
 
     origin : originFrom m line d ≡ messageOrigin (c .socket) (c .id) (d .number)

@@ -18,7 +18,7 @@ use Rattle.pb_adv.specs.declared.Parsed.{Parsed}
 use Rattle.pb_adv.specs.declared.Parsed.the-variants as P
 use Rattle.pb_adv.specs.declared.Segment.{Segment}
 use Rattle.pb_adv.specs.declared.FrameRefusal.{FrameRefusal}
-use Rattle.links.specs.Links.{blankWith, find, refusalNumber, told}
+use Rattle.links.specs.Links.{provisioner, blankWith, find, refusalNumber, told}
 use Rattle.links.specs.Good.{good}
 use Rattle.links.specs.Station.{Station, noLink, isFound, onFrame, received, localOpen, localSend, localClose}
 use Rattle.links.specs.Promises.{addressed}
@@ -59,11 +59,11 @@ use Rattle.import_log.proofs.Rows.{heard-line, opened, Becomes, records
 -- ---- the two repeats
 
 module _ (ls : List Link) where
-  repeat-is : (p : Parsed) (n : ℕ) → isRepeat (nextOf ls (addressed ls p)) p n ≡ true → IsRepeat ls p n
+  repeat-is : (p : Parsed) (n : ℕ) → isRepeat (nextOf ls (addressed provisioner ls p)) p n ≡ true → IsRepeat ls p n
   repeat-is (P.Segment s) n e = absurd (false≢true e)
-  repeat-is (P.Acknowledgement id t) n e = of (addressed ls (P.Acknowledgement id t)) refl
+  repeat-is (P.Acknowledgement id t) n e = of (addressed provisioner ls (P.Acknowledgement id t)) refl
     where
-      of : (found : Found) → addressed ls (P.Acknowledgement id t) ≡ found → IsRepeat ls (P.Acknowledgement id t) n
+      of : (found : Found) → addressed provisioner ls (P.Acknowledgement id t) ≡ found → IsRepeat ls (P.Acknowledgement id t) n
       of (At s) q =
           let w = both-hold {a = eqb n 12} (rw q at e) in
           acknowledgement id t s refl q (eqb-true _ _ (w .1)) (eqb-true n 12 (w .0))
@@ -76,7 +76,7 @@ module _ (ls : List Link) where
   repeat-is (P.Close id reason) n e = close id reason refl (eqb-true n 3 e)
   repeat-is (P.Refused r) n e = absurd (false≢true e)
 
-  is-repeat : (p : Parsed) (n : ℕ) → IsRepeat ls p n → isRepeat (nextOf ls (addressed ls p)) p n ≡ true
+  is-repeat : (p : Parsed) (n : ℕ) → IsRepeat ls p n → isRepeat (nextOf ls (addressed provisioner ls p)) p n ≡ true
   is-repeat p n (acknowledgement id t s e q u k) = rw (q, e, k) (eq-eqb (t .0 + 1) _ u)
   is-repeat p n (close id reason e k) = rw (e, k) refl
 
@@ -119,7 +119,7 @@ module _ (m : Import) (line : List ℕ) where
   heard-told f r e h =
       let p = frameHeard line in
       let n = refusalNumber r in
-      cases (isRepeat (nextOf (linksIn m) (addressed (linksIn m) p)) p n)
+      cases (isRepeat (nextOf (linksIn m) (addressed provisioner (linksIn m) p)) p n)
       (λ k. absurd (h (repeat-is (linksIn m) p n k)))
       (λ k. report (heard-line m line f) ∙ rw (e, k))
 
@@ -129,7 +129,7 @@ module _ (m : Import) (line : List ℕ) where
   repeat-quiet f r e h = report (heard-line m line f) ∙ rw (e, is-repeat (linksIn m) (frameHeard line) (refusalNumber r) h)
 
   message-told : isFrame line ≡ true → (n : ℕ) (t : TransactionNumber) → heardIn m line .0 ≡ A.Delivered n t
-      → (s : ℕ) → addressed (linksIn m) (frameHeard line) ≡ At s
+      → (s : ℕ) → addressed provisioner (linksIn m) (frameHeard line) ≡ At s
       → (r : MessageRefusal) → messageRead (part (heardIn m line .1 .area) (1469 * s) n) ≡ M.Refused r
       → TellsRefusal m line (originIn m (frameHeard line)) (messageNumber r)
   unfolding heardStep
@@ -139,29 +139,29 @@ module _ (m : Import) (line : List ℕ) where
   unfolding sentStep
   broken-told k r e = report (sent-step k) ∙ rw e
 
-  unknown-told : (g : Segment) (n : ℕ) → StartSent line g n → addressed (linksIn m) (frameSent line) ≡ Nowhere
+  unknown-told : (g : Segment) (n : ℕ) → StartSent line g n → addressed provisioner (linksIn m) (frameSent line) ≡ Nowhere
       → TellsRefusal m line (originIn m (frameSent line)) 3
   unfolding sentStep
   unknown-told g n k q =
-      let w : find (linksIn m) (g .id) ≡ Nowhere = ap (addressed (linksIn m)) (sym (k .frame)) ∙ q in
+      let w : find (linksIn m) (g .id) ≡ Nowhere = ap (addressed provisioner (linksIn m)) (sym (k .frame)) ∙ q in
       report (sent-step (k .marked)) ∙ rw (k .frame, k .header, w)
 
-  start-told : (g : Segment) (n : ℕ) → StartSent line g n → (s : ℕ) → addressed (linksIn m) (frameSent line) ≡ At s
+  start-told : (g : Segment) (n : ℕ) → StartSent line g n → (s : ℕ) → addressed provisioner (linksIn m) (frameSent line) ≡ At s
       → getD (linksIn m) s noLink .outstanding ≡ false → getD (linksIn m) s noLink .next ≡ g .number
       → (r : Refusal) → localSend Provisioner (linksIn m) (socketAt s) n .0 ≡ A.Refused r
       → TellsRefusal m line (originIn m (frameSent line)) (refusalNumber r)
   unfolding sentStep
   start-told g n k s q u v r e =
-      let w : find (linksIn m) (g .id) ≡ At s = ap (addressed (linksIn m)) (sym (k .frame)) ∙ q in
+      let w : find (linksIn m) (g .id) ≡ At s = ap (addressed provisioner (linksIn m)) (sym (k .frame)) ∙ q in
       let x : eqb (getD (linksIn m) s noLink .next .0) (g .number .0) ≡ true = eq-eqb _ _ (ap (λ (y : TransactionNumber). y .0) v) in
       report (sent-step (k .marked)) ∙ rw (k .frame, k .header, w, u, x, e)
 
-  close-told : isSent line ≡ true → (id reason : ℕ) → frameSent line ≡ P.Close id reason → (s : ℕ) → addressed (linksIn m) (frameSent line) ≡ At s
+  close-told : isSent line ≡ true → (id reason : ℕ) → frameSent line ≡ P.Close id reason → (s : ℕ) → addressed provisioner (linksIn m) (frameSent line) ≡ At s
       → (r : Refusal) → localClose Provisioner (linksIn m) (socketAt s) .0 ≡ A.Refused r
       → TellsRefusal m line (originIn m (frameSent line)) (refusalNumber r)
   unfolding sentStep
   close-told k id reason p s q r e =
-      let w : find (linksIn m) id ≡ At s = ap (addressed (linksIn m)) (sym p) ∙ q in
+      let w : find (linksIn m) id ≡ At s = ap (addressed provisioner (linksIn m)) (sym p) ∙ q in
       report (sent-step k) ∙ rw (p, w, e)
 
 -- EVERY REFUSAL IS TOLD
@@ -184,14 +184,14 @@ no-row : {row : Row} → R.Row row ≡ R.Nothing → ⊥
 no-row e = let z : _≡_ {A = ℕ} 0 1 = cc in omega arith
 
 -- a frame that no record in use has the Link ID of is refused
-unknown-refused : (σ : Station) (f : List ℕ) → addressed (σ .links) (parsed f) ≡ Nowhere → (r : Refusal) × (received Provisioner σ f .0 ≡ A.Refused r)
+unknown-refused : (σ : Station) (f : List ℕ) → addressed provisioner (σ .links) (parsed f) ≡ Nowhere → (r : Refusal) × (received provisioner σ f .0 ≡ A.Refused r)
 unfolding received
 unknown-refused σ f q =
     cases (eqb (length (σ .area)) (1469 * length (σ .links)))
     (λ a. rw a (cases (good Provisioner (σ .links)) (λ g. rw g (of (parsed f) q)) (λ g. rw g (_, refl))))
     (λ a. rw a (_, refl))
   where
-    of : (p : Parsed) → addressed (σ .links) p ≡ Nowhere → (r : Refusal) × (onFrame Provisioner σ f p .0 ≡ A.Refused r)
+    of : (p : Parsed) → addressed provisioner (σ .links) p ≡ Nowhere → (r : Refusal) × (onFrame provisioner σ f p .0 ≡ A.Refused r)
     of (P.Segment s) q = rw q (_, refl)
     of (P.Acknowledgement id t) q = rw q (_, refl)
     of (P.Open id uuid) q = rw q (_, refl)
@@ -270,12 +270,12 @@ module _ (m : Import) (line : List ℕ) where
   heard-quiet : isFrame line ≡ true → (a : Answer) → heardIn m line .0 ≡ a → heardAs a .report ≡ R.Nothing → IsQuiet m line
   heard-quiet f (A.Refused r) e q =
       let p = frameHeard line in
-      cases (isRepeat (nextOf (linksIn m) (addressed (linksIn m) p)) p (refusalNumber r))
+      cases (isRepeat (nextOf (linksIn m) (addressed provisioner (linksIn m) p)) p (refusalNumber r))
       (λ k. repeats f r e (repeat-is (linksIn m) p (refusalNumber r) k))
       (λ k. absurd (no-row (rw k at q)))
-  heard-quiet f (A.Delivered n t) e q = of (addressed (linksIn m) (frameHeard line)) refl q
+  heard-quiet f (A.Delivered n t) e q = of (addressed provisioner (linksIn m) (frameHeard line)) refl q
     where
-      of : (found : Found) → addressed (linksIn m) (frameHeard line) ≡ found
+      of : (found : Found) → addressed provisioner (linksIn m) (frameHeard line) ≡ found
           → deliveredStep found (frameHeard line) behind (heardIn m line .1 .area) (numberIn m) n .report ≡ R.Nothing → IsQuiet m line
       of (At s) u w =
           let message = messageRead (part (heardIn m line .1 .area) (1469 * s) n) in

@@ -13,7 +13,7 @@ use Rattle.transactions.specs.Numbers.{isSocket, socketPlace}
 use Rattle.transactions.specs.declared.Socket.{Socket}
 use Rattle.transactions.specs.declared.TransactionNumber.{TransactionNumber}
 use Rattle.pb_adv.specs.Frame.{parsed}
-use Rattle.links.specs.Links.{blankWith, find, refusalNumber, told}
+use Rattle.links.specs.Links.{provisioner, blankWith, find, refusalNumber, told}
 use Rattle.links.specs.Station.{Station, isFound, withLink, received, localOpen, localSend, localClose}
 use Rattle.links.specs.Promises.{addressed}
 use Rattle.links.specs.declared.Side.the-variants.{Provisioner}
@@ -72,19 +72,19 @@ pub record Delivered (m : Import) (line : List ℕ) : Type 0 where
   pub long : ℕ
   pub number : TransactionNumber
   pub place : ℕ
-  pub answer : received Provisioner (stationIn m) (octetsOf line) .0 ≡ A.Delivered long number
-  pub isFor : addressed (m .log .tray .links) (parsed (octetsOf line)) ≡ At place
+  pub answer : received provisioner (stationIn m) (octetsOf line) .0 ≡ A.Delivered long number
+  pub isFor : addressed provisioner (m .log .tray .links) (parsed (octetsOf line)) ≡ At place
 
 -- the message as it is read, its origin, and what becomes of it
 abbrev pub readFrom : (m : Import) (line : List ℕ) → Delivered m line → Message
-readFrom m line d = messageRead (part (received Provisioner (stationIn m) (octetsOf line) .1 .area) (1469 * d .place) (d .long))
+readFrom m line d = messageRead (part (received provisioner (stationIn m) (octetsOf line) .1 .area) (1469 * d .place) (d .long))
 
 abbrev pub originFrom : (m : Import) (line : List ℕ) → Delivered m line → Origin
 originFrom m line d = frameOrigin (At (d .place)) (parsed (octetsOf line))
 
 abbrev pub stepFrom : (m : Import) (line : List ℕ) → Delivered m line → Step
 stepFrom m line d =
-    messageStep (withLinks (m .log .tray) (received Provisioner (stationIn m) (octetsOf line) .1 .links)) (d .place) (numberIn m)
+    messageStep (withLinks (m .log .tray) (received provisioner (stationIn m) (octetsOf line) .1 .links)) (d .place) (numberIn m)
     (originFrom m line d) (readFrom m line d)
 
 -- the tray behind an opening
@@ -112,7 +112,7 @@ module _ (m : Import) (line : List ℕ) where
     f = octetsOf line
 
     abbrev done : Answer × Station
-    done = received Provisioner (stationIn m) f
+    done = received provisioner (stationIn m) f
 
     abbrev behind : Tray
     behind = withLinks tray (done .1 .links)
@@ -122,9 +122,9 @@ module _ (m : Import) (line : List ℕ) where
     silent = quiet (record { refuses = tt; same = refl })
 
     refused-says : (n : ℕ) → Refuses (refusedReport (tray .links) (parsed f) number n)
-    refused-says n = cases (isRepeat (nextOf (tray .links) (addressed (tray .links) (parsed f))) (parsed f) n) (λ e. rw e tt) (λ e. rw e refl)
+    refused-says n = cases (isRepeat (nextOf (tray .links) (addressed provisioner (tray .links) (parsed f))) (parsed f) n) (λ e. rw e tt) (λ e. rw e refl)
 
-    at : (n : ℕ) (t : TransactionNumber) → done .0 ≡ A.Delivered n t → (found : Found) → addressed (tray .links) (parsed f) ≡ found
+    at : (n : ℕ) (t : TransactionNumber) → done .0 ≡ A.Delivered n t → (found : Found) → addressed provisioner (tray .links) (parsed f) ≡ found
         → Says m line (deliveredStep found (parsed f) behind (done .1 .area) number n)
     at n t e (At s) q = tells (record { isHexadecimal = isOne; long = n; number = t; place = s; answer = e; isFor = q }) refl
     at n t e Nowhere q = silent
@@ -134,7 +134,7 @@ module _ (m : Import) (line : List ℕ) where
     by-answer A.AcknowledgeAgain e = silent
     by-answer A.Kept e = silent
     by-answer A.Repeat e = silent
-    by-answer (A.Delivered n t) e = at n t e (addressed (tray .links) (parsed f)) refl
+    by-answer (A.Delivered n t) e = at n t e (addressed provisioner (tray .links) (parsed f)) refl
     by-answer A.Opened e = silent
     by-answer A.Already e = silent
     by-answer (A.Closed reason) e = silent
@@ -155,7 +155,7 @@ module _ (m : Import) (line : List ℕ) where
 
   sent-quiet : (f : List ℕ) → Quiet (tray .stock) (sentStep tray number f)
   unfolding sentStep
-  sent-quiet f = by (sentOf (tray .links) (addressed (tray .links) (parsed f)) (parsed f)) (frameOrigin (addressed (tray .links) (parsed f)) (parsed f))
+  sent-quiet f = by (sentOf (tray .links) (addressed provisioner (tray .links) (parsed f)) (parsed f)) (frameOrigin (addressed provisioner (tray .links) (parsed f)) (parsed f))
     where
       by : (a : Asked) (origin : Origin) → Quiet (tray .stock) (sentBy a tray number origin)
       by Q.Nothing origin = record { refuses = tt; same = refl }
@@ -264,7 +264,7 @@ module _ (tray : Tray) (s number : ℕ) (origin : Origin) where
 -- and that of a line
 abbrev pub BecomesOf : (m : Import) (line : List ℕ) → Delivered m line → Step → Type 0
 BecomesOf m line d step =
-    Becomes (withLinks (m .log .tray) (received Provisioner (stationIn m) (octetsOf line) .1 .links)) (d .place) (numberIn m)
+    Becomes (withLinks (m .log .tray) (received provisioner (stationIn m) (octetsOf line) .1 .links)) (d .place) (numberIn m)
     (originFrom m line d) (readFrom m line d) step
 
 pub becomes-of : (m : Import) (line : List ℕ) (d : Delivered m line) {step : Step} → step ≡ stepFrom m line d → BecomesOf m line d step

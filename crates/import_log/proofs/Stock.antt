@@ -16,6 +16,7 @@ use Rattle.transactions.specs.declared.Socket.{Socket}
 use Rattle.pb_adv.specs.Frame.{parsed}
 use Rattle.pb_adv.specs.declared.Parsed.{Parsed}
 use Rattle.pb_adv.specs.declared.Parsed.the-variants as P
+use Rattle.links.specs.Links.{provisioner}
 use Rattle.links.specs.Promises.{addressed}
 use Rattle.links.specs.declared.Link.{Link}
 use Rattle.links.specs.declared.Found.the-variants.{At}
@@ -44,7 +45,7 @@ same-socket : (s t : Socket) → 1 ≤ s .0 → 1 ≤ t .0 → socketPlace s ≡
 same-socket s t a b e = let q : s .0 ≡ t .0 = omega arith in λ i. record { 0 = q i }
 
 -- the socket that a row of a message shows
-pub origin-socket : (ls : List Link) (s : ℕ) (p : Parsed) → addressed ls p ≡ At s → frameOrigin (At s) p .socket ≡ F.Decimal (s + 1)
+pub origin-socket : (ls : List Link) (s : ℕ) (p : Parsed) → addressed provisioner ls p ≡ At s → frameOrigin (At s) p .socket ≡ F.Decimal (s + 1)
 origin-socket ls s (P.Segment g) e = refl
 origin-socket ls s (P.Acknowledgement id t) e = refl
 origin-socket ls s (P.Open id uuid) e = refl

@@ -19,7 +19,7 @@ use Rattle.pb_adv.specs.declared.SegmentHeader.{SegmentHeader}
 use Rattle.pb_adv.specs.declared.SegmentHeader.the-variants.{Start, Continuation}
 use Rattle.pb_adv.specs.declared.Parsed.{Parsed}
 use Rattle.pb_adv.specs.declared.Parsed.the-variants as P
-use Rattle.links.specs.Links.{inUse, sends, find}
+use Rattle.links.specs.Links.{provisioner, inUse, sends, find}
 use Rattle.links.specs.Segments.{OneLink}
 use Rattle.links.specs.Station.{Station, noLink, getLink, acknowledgementStep, frameStep, linkAt}
 use Rattle.links.specs.Operations.{receiving, opening, sending, closing, operate, afterAll as operated}
@@ -31,10 +31,11 @@ use Rattle.links.specs.declared.LinkState.the-variants as S
 use Rattle.links.specs.declared.LastDelivered.the-variants as L
 use Rattle.links.specs.declared.HalfReceived.the-variants as H
 use Rattle.links.specs.declared.Link.{Link}
+use Rattle.links.specs.declared.Answer.{Answer}
 use Rattle.links.specs.declared.Found.{Found}
 use Rattle.links.specs.declared.Found.the-variants.{At, Nowhere}
 use Rattle.links.proofs.Frames.{found-id}
-use Rattle.links.proofs.Promises.{received-at, local-calls}
+use Rattle.links.proofs.Promises.{provisioner-step, received-at, local-calls}
 use Rattle.links.proofs.Local.{open-used, send-after}
 use Rattle.import_tray.specs.declared.Tray.{Tray}
 use Rattle.import_frames.specs.Origins.{socketAt}
@@ -74,7 +75,7 @@ module _ (σ : Station) (s id : ℕ) (hasId : getLink s σ .link .id ≡ id) whe
     unmoved : Later (x .link) (x .link)
     unmoved = later-same (x .link)
 
-    own-as : (state : LinkState) (p : Parsed) → leavesAlone id p ≡ true → addressed (σ .links) p ≡ At s
+    own-as : (state : LinkState) (p : Parsed) → leavesAlone id p ≡ true → addressed provisioner (σ .links) p ≡ At s
         → Later (x .link) (frameStep Provisioner x state f p .1 .link)
     unfolding frameStep acknowledgementStep
     own-as S.Free p e q = unmoved
@@ -115,7 +116,7 @@ module _ (tray : Tray) (s id : ℕ) (found-other : (other : ℕ) → isOther oth
   close-asks Nowhere w h q e = let z : _≡_ {A = ℕ} 0 1 = cc in absurd (omega arith)
 
   -- a Close that is sent is that of another socket
-  asks-other : (p : Parsed) → leavesOpen id p ≡ true → (w : Socket) → sentOf (tray .links) (addressed (tray .links) p) p ≡ A.Close w → s ≢ socketPlace w
+  asks-other : (p : Parsed) → leavesOpen id p ≡ true → (w : Socket) → sentOf (tray .links) (addressed provisioner (tray .links) p) p ≡ A.Close w → s ≢ socketPlace w
   asks-other (P.Segment g) e w q = absurd (segment-asks (find (tray .links) (g .id)) (g .number) (g .header) w q)
   asks-other (P.Acknowledgement i t) e w q = let z : _≡_ {A = ℕ} 0 1 = cc in absurd (omega arith)
   asks-other (P.Open i uuid) e w q = let z : _≡_ {A = ℕ} 0 1 = cc in absurd (omega arith)
@@ -143,32 +144,33 @@ module _ (m : Import) (s : Socket) (id : ℕ) (some : 1 ≤ s .0) (used : inUse 
   as-it-was : LaterAt σ
   as-it-was = later-same (linkAt (σ .links) s)
 
-  heard-link : (f : List ℕ) → Octets f → leavesAlone id (parsed f) ≡ true → LaterAt (operate Provisioner σ (receiving f) .1)
+  heard-link : (f : List ℕ) → Octets f → leavesAlone id (parsed f) ≡ true → LaterAt (operate provisioner σ (receiving f) .1)
   unfolding getLink
   heard-link f o alone =
       let x = getLink (socketPlace s) σ in
-      received-at Provisioner σ f o (socketPlace s) (λ y. Later (x .link) (y .link)) (later-same (x .link))
-      (λ _ _ _ at. own-as σ (socketPlace s) id own f x (x .link .state) (parsed f) alone at)
+      received-at provisioner σ f o (socketPlace s) (λ y. Later (x .link) (y .link)) (later-same (x .link))
+      (λ _ _ _ at _. subst (λ (r : Answer × OneLink). Later (x .link) (r .1 .link)) (sym (provisioner-step x f (parsed f)))
+      (own-as σ (socketPlace s) id own f x (x .link .state) (parsed f) alone at))
 
   -- its socket is in use, so that an opening of it changes nothing
-  open-link : (w : Socket) (i : ℕ) → LaterAt (operate Provisioner σ (opening w i) .1)
+  open-link : (w : Socket) (i : ℕ) → LaterAt (operate provisioner σ (opening w i) .1)
   open-link w i =
       cases (eqb (socketPlace s) (socketPlace w))
       (λ e. rw (open-used Provisioner (tray .links) w i (rw (← (eqb-true (socketPlace s) (socketPlace w) e)) used)) as-it-was)
       (λ e. rw (local-calls .opening w i .leaves-others (tray .links) (socketPlace s) (eqb-false (socketPlace s) (socketPlace w) e)) as-it-was)
 
-  send-link : (w : Socket) (n : ℕ) → LaterAt (operate Provisioner σ (sending w n) .1)
+  send-link : (w : Socket) (n : ℕ) → LaterAt (operate provisioner σ (sending w n) .1)
   send-link w n =
       send-after Later later-same Provisioner (tray .links) w (socketPlace s) n
       (λ l. record { opened = λ k. k; used = λ k. k; id = refl; last = refl; half = refl })
 
-  close-link : (w : Socket) → socketPlace s ≢ socketPlace w → LaterAt (operate Provisioner σ (closing w) .1)
+  close-link : (w : Socket) → socketPlace s ≢ socketPlace w → LaterAt (operate provisioner σ (closing w) .1)
   close-link w other = rw (local-calls .closing Provisioner w .leaves-others (tray .links) (socketPlace s) other) as-it-was
 
   link-after : LaterAt (stationIn (after m line))
   link-after = subst LaterAt (sym (station-after m line)) (of (does tray line))
     where
-      of : Does tray line → LaterAt (operated Provisioner σ (operationsIn tray line))
+      of : Does tray line → LaterAt (operated provisioner σ (operationsIn tray line))
       of (hears e q) = rw q (heard-link (octetsOf line) (frame-octets line e) (leaves .heard e))
       of (opens e q) = rw q (open-link _ _)
       of (sends-segment w n q) = rw q (send-link w n)

@@ -17,7 +17,7 @@ use Rattle.pb_adv.specs.declared.Parsed.the-variants as P
 use Rattle.pb_adv.specs.declared.Segment.{Segment}
 use Rattle.pb_adv.specs.declared.SegmentHeader.the-variants.{Start}
 use Rattle.pb_adv.specs.declared.FrameRefusal.{FrameRefusal}
-use Rattle.links.specs.Links.{refusalNumber}
+use Rattle.links.specs.Links.{provisioner, refusalNumber}
 use Rattle.links.specs.Station.{Station, noLink, received, localOpen, localSend, localClose}
 use Rattle.links.specs.Promises.{addressed}
 use Rattle.links.specs.declared.Side.the-variants.{Provisioner}
@@ -47,7 +47,7 @@ abbrev pub linksIn : Import → List Link
 linksIn m = m .log .tray .links
 
 abbrev pub heardIn : Import → List ℕ → Answer × Station
-heardIn m line = received Provisioner (stationOf (m .log .tray) (m .area)) (octetsOf line)
+heardIn m line = received provisioner (stationOf (m .log .tray) (m .area)) (octetsOf line)
 
 -- the frame of a line, heard and sent
 abbrev pub frameHeard : List ℕ → Parsed
@@ -58,7 +58,7 @@ frameSent line = parsed (octetsOf (drop 1 line))
 
 -- where a frame comes from
 abbrev pub originIn : Import → Parsed → Origin
-originIn m p = frameOrigin (addressed (linksIn m) p) p
+originIn m p = frameOrigin (addressed provisioner (linksIn m) p) p
 
 -- the line writes the `refused` row with number n
 abbrev pub TellsRefusal : Import → List ℕ → Origin → ℕ → Type 0
@@ -66,7 +66,7 @@ TellsRefusal m line origin n = reportIn m line ≡ R.Row (refusedRow (numberIn m
 
 -- "Two refusals are repeats [..]: 12 of an acknowledgement heard whose number is one less than the link's next sending number; and 3 of a Close heard."
 pub data IsRepeat (ls : List Link) (p : Parsed) (n : ℕ) : Type 0 where
-  acknowledgement : (id : ℕ) (t : TransactionNumber) (s : ℕ) → p ≡ P.Acknowledgement id t → addressed ls p ≡ At s → t .0 + 1 ≡ getD ls s noLink .next .0
+  acknowledgement : (id : ℕ) (t : TransactionNumber) (s : ℕ) → p ≡ P.Acknowledgement id t → addressed provisioner ls p ≡ At s → t .0 + 1 ≡ getD ls s noLink .next .0
       → n ≡ 12 → IsRepeat ls p n
   close : (id reason : ℕ) → p ≡ P.Close id reason → n ≡ 3 → IsRepeat ls p n
 
@@ -90,18 +90,18 @@ pub record RefusalsTold (m : Import) (line : List ℕ) : Type 0 where
       → reportIn m line ≡ R.Nothing
   -- a delivered message, by the reader
   pub message : isFrame line ≡ true → (n : ℕ) (t : TransactionNumber) → heardIn m line .0 ≡ A.Delivered n t
-      → (s : ℕ) → addressed (linksIn m) (frameHeard line) ≡ At s
+      → (s : ℕ) → addressed provisioner (linksIn m) (frameHeard line) ≡ At s
       → (r : MessageRefusal) → messageRead (part (heardIn m line .1 .area) (1469 * s) n) ≡ M.Refused r
       → TellsRefusal m line (originIn m (frameHeard line)) (messageNumber r)
   -- a frame sent: "It is taken apart as every frame is (1, 2)"; "a Start: 3 if no record in use has its Link ID", and Send's refusals; and those of a Close
   pub sentBroken : isSent line ≡ true → (r : FrameRefusal) → frameSent line ≡ P.Refused r → TellsRefusal m line unknown (frameNumber r)
-  pub sentUnknown : (g : Segment) (n : ℕ) → StartSent line g n → addressed (linksIn m) (frameSent line) ≡ Nowhere
+  pub sentUnknown : (g : Segment) (n : ℕ) → StartSent line g n → addressed provisioner (linksIn m) (frameSent line) ≡ Nowhere
       → TellsRefusal m line (originIn m (frameSent line)) 3
-  pub sentStart : (g : Segment) (n : ℕ) → StartSent line g n → (s : ℕ) → addressed (linksIn m) (frameSent line) ≡ At s
+  pub sentStart : (g : Segment) (n : ℕ) → StartSent line g n → (s : ℕ) → addressed provisioner (linksIn m) (frameSent line) ≡ At s
       → getD (linksIn m) s noLink .outstanding ≡ false → getD (linksIn m) s noLink .next ≡ g .number
       → (r : Refusal) → localSend Provisioner (linksIn m) (socketAt s) n .0 ≡ A.Refused r
       → TellsRefusal m line (originIn m (frameSent line)) (refusalNumber r)
-  pub sentClose : isSent line ≡ true → (id reason : ℕ) → frameSent line ≡ P.Close id reason → (s : ℕ) → addressed (linksIn m) (frameSent line) ≡ At s
+  pub sentClose : isSent line ≡ true → (id reason : ℕ) → frameSent line ≡ P.Close id reason → (s : ℕ) → addressed provisioner (linksIn m) (frameSent line) ≡ At s
       → (r : Refusal) → localClose Provisioner (linksIn m) (socketAt s) .0 ≡ A.Refused r
       → TellsRefusal m line (originIn m (frameSent line)) (refusalNumber r)
 
@@ -119,7 +119,7 @@ NoDelivery a = (n : ℕ) (t : TransactionNumber) → a ≢ A.Delivered n t
 
 -- what a frame sent asks of the records
 abbrev pub askedBy : Import → Parsed → Asked
-askedBy m p = sentOf (linksIn m) (addressed (linksIn m) p) p
+askedBy m p = sentOf (linksIn m) (addressed provisioner (linksIn m) p) p
 
 -- it asks nothing, or its call is not refused
 pub data SentQuiet (m : Import) (p : Parsed) : Type 0 where

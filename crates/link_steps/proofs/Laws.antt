@@ -1,7 +1,7 @@
 -- Laws between the definitions of `links` and the steps of one link.
-use Prim.Native.Nat.{ℕ, _+_, _*_, _≤_, _<_}
+use Prim.Native.Nat.{ℕ, _+_, _≤_, _<_}
 use native.Mathlib.Omega.{arith}
-use mathlib.Core.Bool.{Bool, true, false, _&&_, not, false≢true}
+use mathlib.Core.Bool.{cond, true, false, _&&_, not, false≢true}
 use mathlib.Core.List.{List, [], _∷_}
 use mathlib.Core.Path.{_≡_, refl, sym, ap, _∙_}
 use types.Run.{OneOf, miss}
@@ -17,6 +17,7 @@ use Rattle.fcs.specs.Fcs.{checkOctet}
 use Rattle.pb_adv.proofs.Parsed.{the-type}
 use Rattle.pb_adv.proofs.Tables.{IsFrame, start, acknowledgement, continuation, opens, acks, closes, Reads, no-frame, unknown, frame, reads}
 use Rattle.pb_adv.specs.Frame.{linkId, parsed}
+use Rattle.pb_adv.specs.Tables.{malformed}
 use Rattle.pb_adv.specs.Promises.{Fits, IsEncoding}
 use Rattle.transactions.specs.Segments.{segN, segmentPlace, segmentLength}
 use Rattle.transactions.proofs.Laws.{segment-begins}
@@ -27,13 +28,13 @@ use Rattle.transactions.specs.declared.TransactionNumber.{TransactionNumber}
 use Rattle.pb_adv.specs.declared.Parsed.{Parsed}
 use Rattle.pb_adv.specs.declared.Parsed.the-variants as P
 use Rattle.links.specs.Marks.{isMarked, withMark, allMarked}
-use Rattle.links.specs.Links.{sends, firstNumber, isLast, hasId, find}
+use Rattle.links.specs.Links.{End, sideOf, sends, firstNumber, isLast, hasId, find, inUse}
 use Rattle.links.specs.Good.{good, goodHalf, goodAs, goodLink, atRest, isNothing, isEmpty}
 use Rattle.links.specs.Segments.{OneLink, marked, entered, offered, onHalf, segmentStep, completed}
-use Rattle.links.specs.Station.{Station, getLink, putLink, acknowledgementStep, ackStep, frameStep, atSocket, onFrame, received}
-use Rattle.links.specs.Promises.{Sized}
+use Rattle.links.specs.Station.{Station, getLink, putLink, acknowledgementStep, ackStep, frameStep, atSocket, onFrame, isRight, received}
+use Rattle.links.specs.Tables.{isDeviceOpen}
 use Rattle.links.proofs.Keep.{message-out, open-out}
-use Rattle.links.proofs.Lens.{found-at, found-nowhere, good-get, part-size, put-get}
+use Rattle.links.proofs.Lens.{Sized, right-sized, found-at, found-nowhere, good-get, part-size, put-get}
 use Rattle.links.proofs.Tables.{goes}
 use Rattle.links.specs.declared.Side.{Side}
 use Rattle.links.specs.declared.Side.the-variants.{Provisioner, Device}
@@ -48,7 +49,7 @@ use Rattle.links.specs.declared.Found.the-variants.{At, Nowhere}
 use Rattle.links.specs.declared.Refusal.the-variants as R
 use Rattle.links.specs.declared.Answer.{Answer}
 use Rattle.links.specs.declared.Answer.the-variants as A
-use Rattle.link_steps.specs.Calls.{oneLink, steppedOf, atId, ofLink, judgedFrame, linkReceived, inRange, linkStepped}
+use Rattle.link_steps.specs.Calls.{oneLink, steppedOf, atId, stateFor, ofLink, linkReceived, inRange}
 use Rattle.link_steps.specs.Steps.{linkRefused, compared, EnterAsks, NoSegment, otherStep, InRange}
 
 -- ---- a segment that goes to a message
@@ -229,26 +230,37 @@ module _ (side : Side) (l : Link) (a f : List ℕ) where
 
 -- ---- the receiving call
 
-module _ (side : Side) (x : OneLink) (f : List ℕ) (right : Bool) where
-  pub judged-small : (length (x .part) ≡ 1469 → ⊥) → judgedFrame side x f right ≡ (A.Refused R.WrongArgument, x)
-  unfolding judgedFrame
-  judged-small h = rw (ne-eqb (length (x .part)) 1469 h)
+-- a link of another Link ID is as a free one
+id-state : (side : Side) (x : OneLink) (id : ℕ) (f : List ℕ) (p : Parsed) → atId side x id f p ≡ frameStep side x (stateFor (x .link) id) f p
+unfolding frameStep
+id-state side x id f p = cases (eqb (x .link .id) id) (λ e. rw e (own (x .link .state))) (λ e. rw e (other (x .link .state)))
+  where
+    own : (state : LinkState) → cond (inUse state && true) (frameStep side x state f p) (A.Refused R.UnknownLink, x) ≡ frameStep side x state f p
+    own S.Free = refl
+    own S.Opening = refl
+    own S.Open = refl
 
-  pub judged-bad : length (x .part) ≡ 1469 → right ≡ false → judgedFrame side x f right ≡ (A.Refused R.BadState, x)
-  unfolding judgedFrame
-  judged-bad h g = rw (eq-eqb (length (x .part)) 1469 h, g)
+    other : (state : LinkState) → cond (inUse state && false) (frameStep side x state f p) (A.Refused R.UnknownLink, x) ≡ (A.Refused R.UnknownLink, x)
+    other S.Free = refl
+    other S.Opening = refl
+    other S.Open = refl
 
-  pub judged-frame : length (x .part) ≡ 1469 → right ≡ true → judgedFrame side x f right ≡ ofLink side x f (parsed f)
-  unfolding judgedFrame
-  judged-frame h g = rw (eq-eqb (length (x .part)) 1469 h, g)
+module _ (side : Side) (x : OneLink) (f : List ℕ) where
+  pub received-small : (length (x .part) ≡ 1469 → ⊥) → linkReceived side x f ≡ (A.Refused R.WrongArgument, x)
+  unfolding linkReceived
+  received-small h = rw (ne-eqb (length (x .part)) 1469 h)
 
-  pub judged-segment : length (x .part) ≡ 1469 → right ≡ true → (s : Segment) → parsed f ≡ P.Segment s → hasId (x .link) (s .id) ≡ true
-      → judgedFrame side x f right ≡ frameStep side x (x .link .state) f (P.Segment s)
-  judged-segment h g s p i = judged-frame h g ∙ rw (p, i)
+  pub received-bad : length (x .part) ≡ 1469 → inRange (x .link .half) ≡ false → linkReceived side x f ≡ (A.Refused R.BadState, x)
+  unfolding linkReceived
+  received-bad h g = rw (eq-eqb (length (x .part)) 1469 h, g)
 
--- at a good record the two tests say the same
-pub received-stepped : (side : Side) (x : OneLink) (f : List ℕ) → goodLink side (x .link) ≡ true → linkReceived side x f ≡ linkStepped side x f
-received-stepped side x f g = ap (judgedFrame side x f) (g ∙ sym (good-in side (x .link) g))
+  pub received-frame : length (x .part) ≡ 1469 → inRange (x .link .half) ≡ true → linkReceived side x f ≡ ofLink side x f (parsed f)
+  unfolding linkReceived
+  received-frame h g = rw (eq-eqb (length (x .part)) 1469 h, g)
+
+  pub received-segment : length (x .part) ≡ 1469 → inRange (x .link .half) ≡ true → (s : Segment) → parsed f ≡ P.Segment s
+      → linkReceived side x f ≡ frameStep side x (stateFor (x .link) (s .id)) f (P.Segment s)
+  received-segment h g s p = received-frame h g ∙ rw p (id-state side x (s .id) f (P.Segment s))
 
 -- ---- a frame at a station
 
@@ -261,38 +273,46 @@ of-id side x f p (opens k h) = refl
 of-id side x f p (acks k h) = refl
 of-id side x f p (closes k h) = refl
 
-module _ (side : Side) (σ : Station) (f : List ℕ) (sized : Sized σ) (stateGood : good side (σ .links) ≡ true) (s : ℕ) (below : s < length (σ .links)) where
+-- but for the Opens that come to a device
+module _ (end : End) (σ : Station) (f : List ℕ) (right : isRight end σ ≡ true) (stateGood : good (sideOf end) (σ .links) ≡ true)
+    (notOpen : malformed f ≡ false → isDeviceOpen end f ≡ false) (s : ℕ) (below : s < length (σ .links)) where
+  abbrev side : Side
+  side = sideOf end
+
+  sized : Sized σ
+  sized = right-sized end σ right
+
   -- the station with a step of the link at place s
   abbrev steppedAt : Answer × OneLink → Answer × Station
   steppedAt r = (r .0, putLink s (r .1) σ)
 
   same-at : (a : Answer) → (a, σ) ≡ steppedAt (a, getLink s σ)
-  same-at a = ap (λ (τ : Station). (a, τ)) (sym (put-get s σ (omega arith)))
+  same-at a = ap (λ (τ : Station). (a, τ)) (sym (put-get s σ (omega (arith, sized))))
 
   -- what is left to show of it: that the record which is found does as the one at place s
   abbrev AsFound : Type 0
   AsFound = (p : Parsed) → atSocket side σ (find (σ .links) (linkId f)) f p ≡ steppedAt (atId side (getLink s σ) (linkId f) f p)
 
-  by-reads : AsFound → (p : Parsed) → Reads f p → onFrame side σ f p ≡ steppedAt (ofLink side (getLink s σ) f p)
+  by-reads : AsFound → (p : Parsed) → Reads f p → onFrame end σ f p ≡ steppedAt (ofLink side (getLink s σ) f p)
   by-reads h p (no-frame m) = same-at (A.Refused R.Malformed)
   by-reads h p (unknown m n) = same-at (A.Refused R.UnknownOpcode)
-  by-reads h p (frame m n r) = goes side σ f p r ∙ h p ∙ sym (ap steppedAt (of-id side (getLink s σ) f p r))
+  by-reads h p (frame m n r) = goes end σ f p r (notOpen m) ∙ h p ∙ sym (ap steppedAt (of-id side (getLink s σ) f p r))
 
-  received-by : AsFound → received side σ f ≡ steppedAt (linkStepped side (getLink s σ) f)
+  received-by : AsFound → received end σ f ≡ steppedAt (linkReceived side (getLink s σ) f)
   unfolding received
   received-by h =
       let size = part-size (length (σ .links)) σ refl sized s below in
       let range = good-in side (getLink s σ .link) (good-get side σ s stateGood below) in
-      rw (eq-eqb (length (σ .area)) (1469 * length (σ .links)) sized, stateGood)
-      (by-reads h (parsed f) (reads f) ∙ sym (ap steppedAt (judged-frame side (getLink s σ) f (inRange (getLink s σ .link .half)) size range)))
+      rw (right, stateGood)
+      (by-reads h (parsed f) (reads f) ∙ sym (ap steppedAt (received-frame side (getLink s σ) f size range)))
 
   -- the record in use that has the frame's Link ID steps
-  pub received-at : find (σ .links) (linkId f) ≡ At s → received side σ f ≡ steppedAt (linkStepped side (getLink s σ) f)
+  pub received-at : find (σ .links) (linkId f) ≡ At s → received end σ f ≡ steppedAt (linkReceived side (getLink s σ) f)
   unfolding getLink
   received-at at = let w = found-at (σ .links) (linkId f) s at .1 in received-by (λ p. rw (at, w))
 
   -- where no record has it, each refuses the frame
-  pub received-nowhere : find (σ .links) (linkId f) ≡ Nowhere → received side σ f ≡ steppedAt (linkStepped side (getLink s σ) f)
+  pub received-nowhere : find (σ .links) (linkId f) ≡ Nowhere → received end σ f ≡ steppedAt (linkReceived side (getLink s σ) f)
   unfolding getLink
   received-nowhere nowhere =
       let w = found-nowhere (σ .links) (linkId f) nowhere s in

@@ -9,12 +9,13 @@ use Rattle.pb_adv.specs.Frame.{parsed}
 use Rattle.pb_adv.specs.declared.Parsed.{Parsed}
 use Rattle.pb_adv.specs.declared.Parsed.the-variants as P
 use Rattle.links.specs.Links.{hasId}
-use Rattle.links.specs.Good.{goodLink}
 use Rattle.links.specs.Segments.{OneLink}
 use Rattle.links.specs.Station.{frameRefusal, frameStep}
 use Rattle.links.specs.declared.Side.{Side}
 use Rattle.links.specs.declared.HalfReceived.{HalfReceived}
 use Rattle.links.specs.declared.HalfReceived.the-variants as H
+use Rattle.links.specs.declared.LinkState.{LinkState}
+use Rattle.links.specs.declared.LinkState.the-variants as S
 use Rattle.links.specs.declared.Link.{Link}
 use Rattle.links.specs.declared.Refusal.the-variants as R
 use Rattle.links.specs.declared.Answer.{Answer}
@@ -36,6 +37,10 @@ recordStepped r = record { link = r .1; answer = r .0 }
 abbrev pub atId : Side → OneLink → ℕ → List ℕ → Parsed → Answer × OneLink
 atId side x id f p = cond (hasId (x .link) id) (frameStep side x (x .link .state) f p) (A.Refused R.UnknownLink, x)
 
+-- a link's state for a frame with a Link ID: a link of another is for it as if it were free, and a free one refuses with 3
+abbrev pub stateFor : Link → ℕ → LinkState
+stateFor l id = cond (eqb (l .id) id) (l .state) S.Free
+
 -- 1 and 2, or the link by the frame's Link ID
 abbrev pub ofLink : Side → OneLink → List ℕ → Parsed → Answer × OneLink
 ofLink side x f (P.Segment s) = atId side x (s .id) f (P.Segment s)
@@ -45,22 +50,15 @@ ofLink side x f (P.Ack id) = atId side x id f (P.Ack id)
 ofLink side x f (P.Close id reason) = atId side x id f (P.Close id reason)
 ofLink side x f (P.Refused r) = (A.Refused (frameRefusal r), x)
 
--- 11 a part of another length, 14 a record that is wrong by its test, then the frame
-unfoldable pub judgedFrame : Side → OneLink → List ℕ → Bool → Answer × OneLink
-judgedFrame side x f right =
-    cond (eqb (length (x .part)) 1469)
-    (cond right (ofLink side x f (parsed f)) (A.Refused R.BadState, x))
-    (A.Refused R.WrongArgument, x)
-
--- RECEIVING A FRAME AT ONE LINK: "the state passed in is bad" where the record is
-abbrev pub linkReceived : Side → OneLink → List ℕ → Answer × OneLink
-linkReceived side x f = judgedFrame side x f (goodLink side (x .link))
-
 -- a half-received message with its L in range
 abbrev pub inRange : HalfReceived → Bool
 inRange H.Nothing = true
 inRange (H.Message h) = isLength (h .length)
 
--- the same at a link whose record is judged already: of what is bad only an L that is out of range is refused here
-abbrev pub linkStepped : Side → OneLink → List ℕ → Answer × OneLink
-linkStepped side x f = judgedFrame side x f (inRange (x .link .half))
+-- RECEIVING A FRAME AT ONE LINK: 11 a part of another length, 14 an L that is out of range, then the frame. What else is bad, in this record or in
+-- others, the calls of an end judge first
+unfoldable pub linkReceived : Side → OneLink → List ℕ → Answer × OneLink
+linkReceived side x f =
+    cond (eqb (length (x .part)) 1469)
+    (cond (inRange (x .link .half)) (ofLink side x f (parsed f)) (A.Refused R.BadState, x))
+    (A.Refused R.WrongArgument, x)

@@ -91,9 +91,9 @@ module _ (link : Link) (p f : List ℕ) (s : Segment) where
   abbrev pub segmentSteps : Answer × OneLink
   segmentSteps = segmentStep (oneLink link p) (s .number) (s .header) (part f (s .from) (s .count))
 
--- a segment at a link of its Link ID
-abbrev pub segmentTaken : Side → Link → List ℕ → List ℕ → Segment → Answer × OneLink
-segmentTaken side link p f s = frameStep side (oneLink link p) (link .state) f (P.Segment s)
+-- a segment at a link, by a state
+abbrev pub segmentTaken : Side → Link → LinkState → List ℕ → List ℕ → Segment → Answer × OneLink
+segmentTaken side link state p f s = frameStep side (oneLink link p) state f (P.Segment s)
 
 -- ---- a frame of another kind, at a link without its octets
 

@@ -1,4 +1,5 @@
-// The steps of one link, at either end: a frame that is received for it, a local Send, a local Close.
+// The steps of one link, at either end: a frame that is received for it, a local Send and a local Close. They take any record, and are what the calls of
+// station, local_calls and device do once they have judged arguments and state; a host makes those calls.
 mod other_frames;
 mod segments;
 
@@ -18,7 +19,7 @@ use segments::take_segment;
 ghost use mathlib.Core.List.{[]};
 ghost use mathlib.Core.Path.{_≡_};
 ghost use Rattle.links.specs.Station.{frameRefusal, sendStep, closeStep};
-ghost use Rattle.link_steps.specs.Calls.{oneLink, steppedOf, recordStepped, atId, ofLink, inRange, linkStepped, linkReceived};
+ghost use Rattle.link_steps.specs.Calls.{oneLink, steppedOf, recordStepped, atId, stateFor, ofLink, inRange, linkReceived};
 ghost use Rattle.link_steps.specs.Steps.{linkRefused, NoSegment};
 
 // One record after a step of its link, and the answer.
@@ -28,7 +29,7 @@ pub struct Stepped {
 }
 
 // The record as it was, and a refusal.
-fn refuse_link(link: Link, refusal: Refusal) -> Stepped
+pub fn refuse_link(link: Link, refusal: Refusal) -> Stepped
     ensures { λ r. ⌜ r ≡ linkRefused link refusal ⌝ }
 {
     Stepped {
@@ -59,7 +60,7 @@ fn at_id(side: Side, link: Link, id: u32, parsed: Parsed) -> Stepped
     }
 }
 
-// A frame of another kind; a segment does not come here.
+// A frame that is no segment.
 fn receive_other(side: Side, link: Link, parsed: Parsed) -> Stepped
     requires { ⌜ NoSegment parsed ⌝ }
     ensures { λ r. ⌜ r ≡ steppedOf (ofLink side (oneLink link []) [] parsed) ⌝ }
@@ -84,10 +85,22 @@ fn is_in_range(half: HalfReceived) -> bool
     }
 }
 
-// A frame at a link whose record is judged already; of its state only what the part needs is tested. The part has LONGEST_MESSAGE octets.
-pub fn step(side: Side, link: Link, part: &mut [u8], frame: &[u8]) -> Stepped
-    ensures { λ r. ⌜ (r ≡ steppedOf (linkStepped side (oneLink link (now (part .entry))) (now (frame .entry))))
-        × (now (part .exit) ≡ linkStepped side (oneLink link (now (part .entry))) (now (frame .entry)) .1 .part) ⌝ }
+// The link's state for a frame with a Link ID: for another than its own as if it were free.
+fn state_for(link: Link, id: u32) -> LinkState
+    ensures { λ r. ⌜ r ≡ stateFor link id ⌝ }
+{
+    if link.id == id {
+        link.state
+    } else {
+        LinkState::Free
+    }
+}
+
+// Receives a frame at one link: 11 unless the part has LONGEST_MESSAGE octets, and of what is bad 14 for an L out of range, which would reach past the
+// part. An Open gets 3, 4 or 5; a device takes it before.
+pub fn receive(side: Side, link: Link, part: &mut [u8], frame: &[u8]) -> Stepped
+    ensures { λ r. ⌜ (r ≡ steppedOf (linkReceived side (oneLink link (now (part .entry))) (now (frame .entry))))
+        × (now (part .exit) ≡ linkReceived side (oneLink link (now (part .entry))) (now (frame .entry)) .1 .part) ⌝ }
 {
     if part.len() != LONGEST_MESSAGE {
         return refuse_link(link, Refusal::WrongArgument);
@@ -98,29 +111,13 @@ pub fn step(side: Side, link: Link, part: &mut [u8], frame: &[u8]) -> Stepped
         let Parsed::Segment(segment) = parsed else {
             return receive_other(side, link, parsed);
         };
-        if link_search::has_id(link, segment.id) {
-            return take_segment(side, link, segment, part, frame);
-        }
-        return refuse_link(link, Refusal::UnknownLink);
+        let state = state_for(link, segment.id);
+        return take_segment(side, link, state, segment, part, frame);
     }
     refuse_link(link, Refusal::BadState)
 }
 
-// Receives a frame at one link. The part has LONGEST_MESSAGE octets.
-pub fn receive(side: Side, link: Link, part: &mut [u8], frame: &[u8]) -> Stepped
-    ensures { λ r. ⌜ (r ≡ steppedOf (linkReceived side (oneLink link (now (part .entry))) (now (frame .entry))))
-        × (now (part .exit) ≡ linkReceived side (oneLink link (now (part .entry))) (now (frame .entry)) .1 .part) ⌝ }
-{
-    if part.len() != LONGEST_MESSAGE {
-        return refuse_link(link, Refusal::WrongArgument);
-    }
-    if link_state::is_good_link(side, link) {
-        return step(side, link, part, frame);
-    }
-    refuse_link(link, Refusal::BadState)
-}
-
-// Begins to send a message of so many octets.
+// Begins to send a message of so many octets: 4 and 13.
 pub fn send(link: Link, length: u16) -> Stepped
     ensures { λ r. ⌜ r ≡ recordStepped (sendStep link length) ⌝ }
 {
@@ -143,7 +140,7 @@ pub fn send(link: Link, length: u16) -> Stepped
     refuse_link(link, Refusal::NotOpen)
 }
 
-// Frees the record.
+// Frees the record: 4.
 pub fn close(side: Side, link: Link) -> Stepped
     ensures { λ r. ⌜ r ≡ recordStepped (closeStep side link) ⌝ }
 {

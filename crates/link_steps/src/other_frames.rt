@@ -68,7 +68,7 @@ fn on_acknowledgement(link: Link, number: TransactionNumber) -> Stepped
     refuse_link(link, Refusal::NotOutstanding)
 }
 
-// An Ack at an open link: the device's end awaits none.
+// An Ack at an open link: "already", or 5 at a device's end.
 fn on_ack(side: Side, link: Link) -> Stepped
     ensures { λ r. ⌜ r ≡ steppedOf (ackStep side (oneLink link [])) ⌝ }
 {

@@ -268,19 +268,19 @@ fn step_segment(link: Link, segment: Segment, part: &mut [u8], frame: &[u8]) -> 
     }
 }
 
-// A segment at a link of its Link ID, by the link's state.
+// A segment at a link, by the link's state for it.
 pub(super) fn take_segment(
     side: Side,
     link: Link,
+    state: LinkState,
     segment: Segment,
     part: &mut [u8],
     frame: &[u8],
 ) -> Stepped
     requires { ⌜ SegmentAsks link (now part) (now frame) segment (segment .header) ⌝ }
-    ensures { λ r. ⌜ (r ≡ steppedOf (segmentTaken side link (now (part .entry)) (now (frame .entry)) segment))
-        × (now (part .exit) ≡ segmentTaken side link (now (part .entry)) (now (frame .entry)) segment .1 .part) ⌝ }
+    ensures { λ r. ⌜ (r ≡ steppedOf (segmentTaken side link state (now (part .entry)) (now (frame .entry)) segment))
+        × (now (part .exit) ≡ segmentTaken side link state (now (part .entry)) (now (frame .entry)) segment .1 .part) ⌝ }
 {
-    let state = link.state;
     let number = segment.number;
     match state {
         LinkState::Free => refuse_link(link, Refusal::UnknownLink),

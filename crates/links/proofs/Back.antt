@@ -22,13 +22,13 @@ use Rattle.pb_adv.specs.declared.Parsed.{Parsed}
 use Rattle.pb_adv.specs.declared.Parsed.the-variants as P
 use Rattle.pb_adv_writing.specs.Writing.{segmentFrame, messageFrames, SegmentAsked}
 use Rattle.pb_adv_writing.proofs.Promises.{parsed-frame}
-use Rattle.links.specs.Links.{sends, inUse, told}
+use Rattle.links.specs.Links.{End, sideOf, sends, inUse, told}
 use Rattle.links.specs.Good.{good}
 use Rattle.links.specs.Segments.{OneLink}
-use Rattle.links.specs.Station.{Station, noLink, getLink, acknowledgementStep, ackStep, frameStep, received, linkAt, localOpen, localClose}
+use Rattle.links.specs.Station.{Station, noLink, getLink, acknowledgementStep, ackStep, frameStep, openStep, isRight, received, linkAt, localOpen, localClose}
 use Rattle.links.specs.Interleaving.{keepIf, All}
 use Rattle.links.specs.Operations.{Operation, receiving, opening, sending, closing, operate, afterAll}
-use Rattle.links.specs.Promises.{Sized, addressed, LocalCall}
+use Rattle.links.specs.Promises.{addressed, LocalCall}
 use Rattle.links.specs.Demand3.{Message}
 use Rattle.links.specs.Demand2.{isOther, Prepared, MayCome, CutComes, Back}
 use Rattle.links.specs.declared.Side.{Side}
@@ -41,13 +41,14 @@ use Rattle.links.specs.declared.Answer.{Answer}
 use Rattle.links.specs.declared.Answer.the-variants as A
 use Rattle.links.proofs.Come.{sinceStart, push, complete, complete-nil, each-complete, since-start-snoc}
 use Rattle.links.proofs.Deliver.{Inv, fresh, inv-same, answerTo, step-inv, inv-stands}
-use Rattle.links.proofs.Lens.{part-size}
+use Rattle.links.proofs.Lens.{right-sized, right-as, part-size}
+use Rattle.links.proofs.Opens.{open-holds}
 use Rattle.links.proofs.Right.{OpenAt, goes, same, stays}
 use Rattle.links.proofs.Frames.{of-cut, in-cut, indexAt, index-at, found-id, frame-id, whose}
 use Rattle.links.proofs.Sockets.{socketAt, place-below, socket-at}
 use Rattle.links.proofs.Demand3.{delivery-in}
 use Rattle.links.proofs.Local.{open-used, close-nowhere, open-count, send-count, close-count, send-after}
-use Rattle.links.proofs.Promises.{stepped, received-at, receiving-keeps-count, receiving-keeps-size, receiving-keeps-good, local-calls}
+use Rattle.links.proofs.Promises.{stepOf, by-step, stepped, received-at, receiving-keeps-count, receiving-keeps-right, receiving-keeps-good, local-calls}
 
 -- ---- what operations bring to the link of a Link ID: the numbers of the segments, in their order
 
@@ -125,22 +126,37 @@ module _ (side : Side) (x : OneLink) (f : List ℕ) where
   ack-same Provisioner = same-half x
   ack-same Device = same-half x
 
-  other-same : (p : Parsed) → isOther p ≡ true → (isSegment p ≡ false) × SameHalf x (frameStep side x S.Open f p .1)
+  other-same : (p : Parsed) → isOther p ≡ true → SameHalf x (frameStep side x S.Open f p .1)
   unfolding frameStep acknowledgementStep
   other-same (P.Segment s) e = absurd (false≢true e)
-  other-same (P.Acknowledgement id t) e = (
-    refl,
-    cases (sends side t)
-        (λ q. rw q (cases (x .link .outstanding && eqb (x .link .next .0) (t .0))
-        (λ v. rw v (record { state = refl; id = refl; last = refl; half = refl; part = refl })) (λ v. rw v (same-half x))))
-        (λ q. rw q (same-half x)),
-  )
-  other-same (P.Open id uuid) e = (refl, same-half x)
-  other-same (P.Ack id) e = (refl, ack-same side)
+  other-same (P.Acknowledgement id t) e =
+      cases (sends side t)
+      (λ q. rw q (cases (x .link .outstanding && eqb (x .link .next .0) (t .0))
+      (λ v. rw v (record { state = refl; id = refl; last = refl; half = refl; part = refl })) (λ v. rw v (same-half x))))
+      (λ q. rw q (same-half x))
+  other-same (P.Open id uuid) e = same-half x
+  other-same (P.Ack id) e = ack-same side
   other-same (P.Close id reason) e = absurd (false≢true e)
-  other-same (P.Refused r) e = (refl, same-half x)
+  other-same (P.Refused r) e = same-half x
 
-module _ (side : Side) (σ : Station) (socket : Socket) (m : Message) (P : Prepared side σ socket m) where
+-- and so does an Open that comes to a device
+open-same : (own : List ℕ) (x : OneLink) (f : List ℕ) (id uuid : ℕ) → inUse (x .link .state) ≡ true → SameHalf x (openStep own x f id uuid .1)
+open-same own x f id uuid u = open-holds own x f id uuid (SameHalf x) (same-half x) (λ n. absurd (false≢true (sym n ∙ u)))
+
+step-same : (end : End) (x : OneLink) (f : List ℕ) → x .link .state ≡ S.Open → (p : Parsed) → isOther p ≡ true → SameHalf x (stepOf end x f p .1)
+step-same end x f opened p h =
+    by-step (λ q. SameHalf x (q .1)) end x f p (λ own id uuid _ _. open-same own x f id uuid (rw opened))
+    (subst (λ (state : LinkState). SameHalf x (frameStep (sideOf end) x state f p .1)) (sym opened) (other-same (sideOf end) x f p h))
+
+not-segment : (p : Parsed) → isOther p ≡ true → isSegment p ≡ false
+not-segment (P.Segment s) e = absurd (false≢true e)
+not-segment (P.Acknowledgement id t) e = refl
+not-segment (P.Open id uuid) e = refl
+not-segment (P.Ack id) e = refl
+not-segment (P.Close id reason) e = refl
+not-segment (P.Refused r) e = refl
+
+module _ (end : End) (σ : Station) (socket : Socket) (m : Message) (P : Prepared end σ socket m) where
   -- its place
   abbrev s : ℕ
   s = socketPlace socket
@@ -167,7 +183,7 @@ module _ (side : Side) (σ : Station) (socket : Socket) (m : Message) (P : Prepa
   brings-each k b (c ∷ cs) (List·Memᴰ·head e) = subst (λ (o : Operation). List·Memᴰ k (brings id (o ∷ cs))) e (rw (brings-frame k b cs) (List·Memᴰ·head refl))
   brings-each k b (c ∷ cs) (List·Memᴰ·tail h) = brings-more id k c cs (brings-each k b cs h)
 
-  all-come : (cs : List Operation) → CutComes side σ socket m cs → complete last (sinceStart (brings id cs)) ≡ true
+  all-come : (cs : List Operation) → CutComes end σ socket m cs → complete last (sinceStart (brings id cs)) ≡ true
   all-come cs h =
       rw (h .split, brings-append id (h .before) (receiving (segmentFrame id t octets 0) ∷ h .since), brings-frame 0 (omega arith) (h .since))
       (each-complete last _ (λ k b. since-has k (brings id (h .before)) (brings id (h .since))
@@ -175,19 +191,19 @@ module _ (side : Side) (σ : Station) (socket : Socket) (m : Message) (P : Prepa
 
   -- ---- the link all along, when the segments l have come since the first Start
   record Going (l : List ℕ) (τ : Station) : Type 0 where
-    at : OpenAt side τ s id
+    at : OpenAt end τ s id
     inv : Inv octets t l (getLink s τ)
 
   -- an operation brings a segment, or leaves the link alone
   data Turn (l : List ℕ) (τ : Station) (c : Operation) : Type 0 where
-    own : (f : List ℕ) → List·Memᴰ f (messageFrames id t octets) → c ≡ receiving f → (k : ℕ) → ((cs : List Operation) → brings id (c ∷ cs) ≡ k ∷ brings id cs) → received side τ f .0 ≡ answerTo octets t l k
-        → Going (push l k) (operate side τ c .1) → Turn l τ c
-    other : ((cs : List Operation) → brings id (c ∷ cs) ≡ brings id cs) → Going l (operate side τ c .1) → Turn l τ c
+    own : (f : List ℕ) → List·Memᴰ f (messageFrames id t octets) → c ≡ receiving f → (k : ℕ) → ((cs : List Operation) → brings id (c ∷ cs) ≡ k ∷ brings id cs) → received end τ f .0 ≡ answerTo octets t l k
+        → Going (push l k) (operate end τ c .1) → Turn l τ c
+    other : ((cs : List Operation) → brings id (c ∷ cs) ≡ brings id cs) → Going l (operate end τ c .1) → Turn l τ c
 
   module _ (l : List ℕ) (τ : Station) (g : Going l τ) where
-    alone : (τ′ : Station) → Sized τ′ → length (τ′ .links) ≡ length (τ .links) → good side (τ′ .links) ≡ true → SameHalf (getLink s τ) (getLink s τ′) → Going l τ′
-    alone τ′ size n notBad e = record {
-      at = record { sized = size; notBad = notBad; below = rw n (g .at .below); isOpen = e .state ∙ g .at .isOpen; hasId = e .id ∙ g .at .hasId };
+    alone : (τ′ : Station) → isRight end τ′ ≡ true → length (τ′ .links) ≡ length (τ .links) → good (sideOf end) (τ′ .links) ≡ true → SameHalf (getLink s τ) (getLink s τ′) → Going l τ′
+    alone τ′ right n notBad e = record {
+      at = record { right = right; notBad = notBad; below = rw n (g .at .below); isOpen = e .state ∙ g .at .isOpen; hasId = e .id ∙ g .at .hasId };
       inv = inv-same octets t l (getLink s τ) (getLink s τ′) (e .last) (e .half) (e .part) (g .inv);
     }
 
@@ -195,56 +211,56 @@ module _ (side : Side) (σ : Station) (socket : Socket) (m : Message) (P : Prepa
     takes f ofCut k b e =
         let w = step-inv octets t (P .ready .some-octets) l (getLink s τ) k b (g .inv) in
         own f ofCut refl k (subst (λ (h : List ℕ). (cs : List Operation) → brings id (receiving h ∷ cs) ≡ k ∷ brings id cs) (sym e) (brings-frame k b))
-        (ap (λ (r : Answer × Station). r .0) (goes side τ s id (g .at) t octets k (asked k b) (P .ready .number) f e) ∙ w .0)
+        (ap (λ (r : Answer × Station). r .0) (goes end τ s id (g .at) t octets k (asked k b) (P .ready .number) f e) ∙ w .0)
         (record {
-          at = stays side τ s id (g .at) t octets k (asked k b) (P .ready .number) f e;
-          inv = rw (same side τ s id (g .at) t octets k (asked k b) (P .ready .number) f e) (w .1);
+          at = stays end τ s id (g .at) t octets k (asked k b) (P .ready .number) f e;
+          inv = rw (same end τ s id (g .at) t octets k (asked k b) (P .ready .number) f e) (w .1);
         })
 
     -- octets that are no segment of this link
-    passes : (f : List ℕ) → Octets f → isOwn id f ≡ false → ((at : addressed (τ .links) (parsed f) ≡ At s) → SameHalf (getLink s τ) (stepped side τ f s)) → Turn l τ (receiving f)
+    passes : (f : List ℕ) → Octets f → isOwn id f ≡ false → ((at : addressed end (τ .links) (parsed f) ≡ At s) → SameHalf (getLink s τ) (stepped end τ f s)) → Turn l τ (receiving f)
     passes f o h k =
         other (λ cs. rw h)
-        (alone _ (receiving-keeps-size side τ f o (g .at .sized)) (receiving-keeps-count side τ f) (receiving-keeps-good side τ f o (g .at .notBad))
-        (received-at side τ f o s (SameHalf (getLink s τ)) (same-half (getLink s τ)) (λ _ _ _ at. k at)))
+        (alone _ (receiving-keeps-right end τ f o (g .at .right)) (receiving-keeps-count end τ f) (receiving-keeps-good end τ f o (g .at .notBad))
+        (received-at end τ f o s (SameHalf (getLink s τ)) (same-half (getLink s τ)) (λ _ _ _ at _. k at)))
+
+    -- neither a segment nor a Close
+    others : (f : List ℕ) → Octets f → isOther (parsed f) ≡ true → Turn l τ (receiving f)
+    others f o h = passes f o (rw (not-segment (parsed f) h)) (λ at. step-same end (getLink s τ) f (g .at .isOpen) (parsed f) h)
 
     other-link : (f : List ℕ) → Octets f → linkId f ≢ id → Turn l τ (receiving f)
     other-link f o h =
-        passes f o (rw (ne-eqb (linkId f) id h) (and-false (isSegment (parsed f))))
-        (λ at. absurd (h (found-id τ s (linkId f) (whose (τ .links) f s at) ∙ g .at .hasId)))
+        cases (isOther (parsed f)) (others f o)
+        (λ e. passes f o (rw (ne-eqb (linkId f) id h) (and-false (isSegment (parsed f))))
+        (λ at. absurd (h (found-id τ s (linkId f) (whose end (τ .links) f s e at) ∙ g .at .hasId))))
 
-    others : (f : List ℕ) → Octets f → isOther (parsed f) ≡ true → Turn l τ (receiving f)
-    others f o h =
-        let w = other-same side (getLink s τ) f (parsed f) h in
-        passes f o (rw (w .0)) (λ at. subst (λ (state : LinkState). SameHalf (getLink s τ) (frameStep side (getLink s τ) state f (parsed f) .1)) (sym (g .at .isOpen)) (w .1))
-
-    local : (ls : List Link) → length ls ≡ length (τ .links) → good side ls ≡ true → SameRecord (getD (τ .links) s noLink) (getD ls s noLink)
+    local : (ls : List Link) → length ls ≡ length (τ .links) → good (sideOf end) ls ≡ true → SameRecord (getD (τ .links) s noLink) (getD ls s noLink)
         → Going l (record { links = ls; area = τ .area })
     unfolding getLink
-    local ls n h e = alone _ (rw n (g .at .sized)) n h (record { state = e .state; id = e .id; last = e .last; half = e .half; part = refl })
+    local ls n h e = alone _ (right-as end τ _ n refl (g .at .right)) n h (record { state = e .state; id = e .id; last = e .last; half = e .half; part = refl })
 
     -- a local Open of this socket is refused, and so is a Close of a socket that has its place and isn't this one
-    opening-same : (w : Socket) (i : ℕ) → (s ≢ socketPlace w → getD (localOpen side (τ .links) w i .1) s noLink ≡ getD (τ .links) s noLink)
-        → getD (localOpen side (τ .links) w i .1) s noLink ≡ getD (τ .links) s noLink
+    opening-same : (w : Socket) (i : ℕ) → (s ≢ socketPlace w → getD (localOpen (sideOf end) (τ .links) w i .1) s noLink ≡ getD (τ .links) s noLink)
+        → getD (localOpen (sideOf end) (τ .links) w i .1) s noLink ≡ getD (τ .links) s noLink
     unfolding getLink
     opening-same w i elsewhere =
         cases (eqb s (socketPlace w))
         (λ e. let q : s ≡ socketPlace w = eqb-true s (socketPlace w) e in
         let u : inUse (linkAt (τ .links) w .state) ≡ true = rw (← q, g .at .isOpen) in
-        rw (open-used side (τ .links) w i u))
+        rw (open-used (sideOf end) (τ .links) w i u))
         (λ e. elsewhere (eqb-false s (socketPlace w) e))
 
-    closing-same : (w : Socket) → socket ≢ w → (s ≢ socketPlace w → getD (localClose side (τ .links) w .1) s noLink ≡ getD (τ .links) s noLink)
-        → getD (localClose side (τ .links) w .1) s noLink ≡ getD (τ .links) s noLink
+    closing-same : (w : Socket) → socket ≢ w → (s ≢ socketPlace w → getD (localClose (sideOf end) (τ .links) w .1) s noLink ≡ getD (τ .links) s noLink)
+        → getD (localClose (sideOf end) (τ .links) w .1) s noLink ≡ getD (τ .links) s noLink
     closing-same w d elsewhere =
         cases (eqb s (socketPlace w))
         (λ e. let q : s ≡ socketPlace w = eqb-true s (socketPlace w) e in
         cases (isSocket w (length (τ .links)))
         (λ b. absurd (d (sym (socket-at socket (length (σ .links)) (P .socket)) ∙ ap socketAt q ∙ socket-at w (length (τ .links)) b)))
-        (λ b. rw (close-nowhere side (τ .links) w b)))
+        (λ b. rw (close-nowhere (sideOf end) (τ .links) w b)))
         (λ e. elsewhere (eqb-false s (socketPlace w) e))
 
-    turn : (c : Operation) → MayCome side σ socket m c → Turn l τ c
+    turn : (c : Operation) → MayCome end σ socket m c → Turn l τ c
     turn (receiving f) (inl h) = let r = of-cut id t octets (suc last) f h in takes f h (r .index) (omega (arith, r .below)) (r .is)
     turn (receiving f) (inr h) = of (h .0)
       where
@@ -252,24 +268,24 @@ module _ (side : Side) (σ : Station) (socket : Socket) (m : Message) (P : Prepa
         of (inl e) = other-link f (h .1) e
         of (inr e) = others f (h .1) e
     turn (opening w i) h =
-        let u : LocalCall side w (λ ls. localOpen side ls w i) = rw h (local-calls .opening w i) in
-        other (λ cs. refl) (local _ (open-count side (τ .links) w i) (u .keeps-good (τ .links) (g .at .notBad)) (record-same (opening-same w i (u .leaves-others (τ .links) s))))
+        let u : LocalCall (sideOf end) w (λ ls. localOpen (sideOf end) ls w i) = rw h (local-calls .opening w i) in
+        other (λ cs. refl) (local _ (open-count (sideOf end) (τ .links) w i) (u .keeps-good (τ .links) (g .at .notBad)) (record-same (opening-same w i (u .leaves-others (τ .links) s))))
     turn (sending w n) h =
-        let u = local-calls .sending side w n in
-        other (λ cs. refl) (local _ (send-count side (τ .links) w n) (u .keeps-good (τ .links) (g .at .notBad))
-        (send-after SameRecord same-record side (τ .links) w s n (λ l. record { state = refl; id = refl; last = refl; half = refl })))
+        let u = local-calls .sending (sideOf end) w n in
+        other (λ cs. refl) (local _ (send-count (sideOf end) (τ .links) w n) (u .keeps-good (τ .links) (g .at .notBad))
+        (send-after SameRecord same-record (sideOf end) (τ .links) w s n (λ l. record { state = refl; id = refl; last = refl; half = refl })))
     turn (closing w) h =
-        let u = local-calls .closing side w in
-        other (λ cs. refl) (local _ (close-count side (τ .links) w) (u .keeps-good (τ .links) (g .at .notBad)) (record-same (closing-same w h (u .leaves-others (τ .links) s))))
+        let u = local-calls .closing (sideOf end) w in
+        other (λ cs. refl) (local _ (close-count (sideOf end) (τ .links) w) (u .keeps-good (τ .links) (g .at .notBad)) (record-same (closing-same w h (u .leaves-others (τ .links) s))))
 
   -- ---- to the end
 
-  goes-on : (a : List ℕ) (cs : List Operation) (τ : Station) → All (MayCome side σ socket m) cs → Going (sinceStart a) τ → Going (sinceStart (a ++ brings id cs)) (afterAll side τ cs)
+  goes-on : (a : List ℕ) (cs : List Operation) (τ : Station) → All (MayCome end σ socket m) cs → Going (sinceStart a) τ → Going (sinceStart (a ++ brings id cs)) (afterAll end τ cs)
   goes-on a [] τ h g = rw (append-nil a) g
-  goes-on a (c ∷ cs) τ h g = of (turn (sinceStart a) τ g c (h .0)) (λ b. goes-on b cs (operate side τ c .1) (h .1))
+  goes-on a (c ∷ cs) τ h g = of (turn (sinceStart a) τ g c (h .0)) (λ b. goes-on b cs (operate end τ c .1) (h .1))
     where
-      of : Turn (sinceStart a) τ c → ((b : List ℕ) → Going (sinceStart b) (operate side τ c .1) → Going (sinceStart (b ++ brings id cs)) (afterAll side (operate side τ c .1) cs))
-          → Going (sinceStart (a ++ brings id (c ∷ cs))) (afterAll side (operate side τ c .1) cs)
+      of : Turn (sinceStart a) τ c → ((b : List ℕ) → Going (sinceStart b) (operate end τ c .1) → Going (sinceStart (b ++ brings id cs)) (afterAll end (operate end τ c .1) cs))
+          → Going (sinceStart (a ++ brings id (c ∷ cs))) (afterAll end (operate end τ c .1) cs)
       of (own f _ e k b _ n) r = rw (b cs, ← (append-snoc a k (brings id cs))) (r (a ++ (k ∷ [])) (rw (since-start-snoc a k) n))
       of (other b n) r = rw (b cs) (r a n)
 
@@ -280,19 +296,19 @@ module _ (side : Side) (σ : Station) (socket : Socket) (m : Message) (P : Prepa
     rest : List Operation
     split : cs ≡ before ++ (receiving frame ∷ rest)
     ofCut : List·Memᴰ frame (messageFrames id t octets)
-    delivered : received side (afterAll side τ before) frame .0 ≡ A.Delivered (length octets) t
+    delivered : received end (afterAll end τ before) frame .0 ≡ A.Delivered (length octets) t
 
   -- one operation before
-  earlier : (τ : Station) (c : Operation) (cs : List Operation) → Delivers (operate side τ c .1) cs → Delivers τ (c ∷ cs)
+  earlier : (τ : Station) (c : Operation) (cs : List Operation) → Delivers (operate end τ c .1) cs → Delivers τ (c ∷ cs)
   earlier τ c cs d = record { before = c ∷ d .before; frame = d .frame; rest = d .rest; split = ap (λ (l : List Operation). c ∷ l) (d .split); ofCut = d .ofCut; delivered = d .delivered }
 
-  delivers : (a : List ℕ) (cs : List Operation) (τ : Station) → All (MayCome side σ socket m) cs → Going (sinceStart a) τ
+  delivers : (a : List ℕ) (cs : List Operation) (τ : Station) → All (MayCome end σ socket m) cs → Going (sinceStart a) τ
       → complete last (sinceStart a) ≡ false → complete last (sinceStart (a ++ brings id cs)) ≡ true → Delivers τ cs
   delivers a [] τ h g n w = absurd (false≢true (sym n ∙ rw (append-nil a) at w))
-  delivers a (c ∷ cs) τ h g n w = of (turn (sinceStart a) τ g c (h .0)) (λ b. delivers b cs (operate side τ c .1) (h .1))
+  delivers a (c ∷ cs) τ h g n w = of (turn (sinceStart a) τ g c (h .0)) (λ b. delivers b cs (operate end τ c .1) (h .1))
     where
-      of : Turn (sinceStart a) τ c → ((b : List ℕ) → Going (sinceStart b) (operate side τ c .1) → complete last (sinceStart b) ≡ false
-          → complete last (sinceStart (b ++ brings id cs)) ≡ true → Delivers (operate side τ c .1) cs) → Delivers τ (c ∷ cs)
+      of : Turn (sinceStart a) τ c → ((b : List ℕ) → Going (sinceStart b) (operate end τ c .1) → complete last (sinceStart b) ≡ false
+          → complete last (sinceStart (b ++ brings id cs)) ≡ true → Delivers (operate end τ c .1) cs) → Delivers τ (c ∷ cs)
       of (own f ofCut e k b u v) r =
           cases (complete last (sinceStart (a ++ (k ∷ []))))
           (λ z. record { before = []; frame = f; rest = cs; split = ap (λ (o : Operation). o ∷ cs) e; ofCut = ofCut; delivered = u ∙ delivery-in octets t a k z n })
@@ -301,16 +317,16 @@ module _ (side : Side) (σ : Station) (socket : Socket) (m : Message) (P : Prepa
 
   starts : Going [] σ
   starts = record {
-    at = record { sized = P .room; notBad = P .notBad; below = place-below socket (length (σ .links)) (P .socket); isOpen = P .ready .isOpen; hasId = refl };
-    inv = fresh refl (P .ready .awaited) (P .ready .nothing) (omega (arith, part-size (length (σ .links)) σ refl (P .room) s (place-below socket (length (σ .links)) (P .socket)), P .ready .few-octets));
+    at = record { right = P .right; notBad = P .notBad; below = place-below socket (length (σ .links)) (P .socket); isOpen = P .ready .isOpen; hasId = refl };
+    inv = fresh refl (P .ready .awaited) (P .ready .nothing) (omega (arith, part-size (length (σ .links)) σ refl (right-sized end σ (P .right)) s (place-below socket (length (σ .links)) (P .socket)), P .ready .few-octets));
   }
 
-  stood : (cs : List Operation) → All (MayCome side σ socket m) cs → complete last (sinceStart (brings id cs)) ≡ true → take (length octets) (getLink s (afterAll side σ cs) .part) ≡ octets
-  stood cs h c = inv-stands octets t (P .ready .some-octets) (sinceStart (brings id cs)) (getLink s (afterAll side σ cs)) c (goes-on [] cs σ h starts .inv)
+  stood : (cs : List Operation) → All (MayCome end σ socket m) cs → complete last (sinceStart (brings id cs)) ≡ true → take (length octets) (getLink s (afterAll end σ cs) .part) ≡ octets
+  stood cs h c = inv-stands octets t (P .ready .some-octets) (sinceStart (brings id cs)) (getLink s (afterAll end σ cs)) c (goes-on [] cs σ h starts .inv)
 
 -- DEMAND 2, BACK
 pub back : Back received
-back side σ s m P cs h comes =
-    let w = all-come side σ s m P cs comes in
-    let d = delivers side σ s m P [] cs σ h (starts side σ s m P) (complete-nil (segN (length (m .octets)))) w in
-    record { before = d .before; frame = d .frame; rest = d .rest; split = d .split; ofCut = d .ofCut; delivered = ap told (d .delivered); stands = stood side σ s m P cs h w }
+back end σ s m P cs h comes =
+    let w = all-come end σ s m P cs comes in
+    let d = delivers end σ s m P [] cs σ h (starts end σ s m P) (complete-nil (segN (length (m .octets)))) w in
+    record { before = d .before; frame = d .frame; rest = d .rest; split = d .split; ofCut = d .ofCut; delivered = ap told (d .delivered); stands = stood end σ s m P cs h w }

@@ -41,7 +41,7 @@ in-half : (side : Side) (t : TransactionNumber) → sends side t ≡ true → In
 in-half Provisioner t e = omega (arith, eqb-true (t .0 / 128) 0 e)
 in-half Device t e = let q = eqb-true (t .0 / 128) 1 e in (omega arith, omega arith)
 
-half-in : (side : Side) (t : TransactionNumber) → InHalf side t → sends side t ≡ true
+pub half-in : (side : Side) (t : TransactionNumber) → InHalf side t → sends side t ≡ true
 half-in Provisioner t h = eq-eqb (t .0 / 128) 0 (omega arith)
 half-in Device t h = eq-eqb (t .0 / 128) 1 (omega (arith, h .0, h .1))
 
@@ -198,7 +198,7 @@ half-good : (side : Side) (last : LastDelivered) (half : HalfReceived) → ((h :
 half-good side last H.Nothing b = refl
 half-good side last (H.Message h) b = not-bad-message side last h (b h refl)
 
-good-by-state : (side : Side) (l : Link) (state : LinkState) → l .state ≡ state → LinkNotBad side l → goodLink side l ≡ true
+pub good-by-state : (side : Side) (l : Link) (state : LinkState) → l .state ≡ state → LinkNotBad side l → goodLink side l ≡ true
 good-by-state side l S.Free e b = subst (λ (m : Link). goodLink side m ≡ true) (blank-said side S.Free 0 ∙ sym (b .free e)) (blank-good side)
 good-by-state side l S.Opening e b =
     let o = b .opening e in

@@ -15,16 +15,14 @@ use Rattle.transactions.specs.Segments.{segN, segment}
 use Rattle.transactions.specs.declared.TransactionNumber.{TransactionNumber}
 use Rattle.transactions.specs.declared.Socket.{Socket}
 use Rattle.pb_adv_writing.specs.Writing.{headerOf, segmentFrame, messageFrames, SegmentAsked}
-use Rattle.links.specs.Links.{Awaits, find, told}
+use Rattle.links.specs.Links.{End, sideOf, Awaits, find, told}
 use Rattle.links.specs.Good.{good}
 use Rattle.links.specs.Segments.{OneLink, segmentStep}
 use Rattle.links.specs.Station.{Station, noLink, getLink, putLink, ofSocket, received}
 use Rattle.links.specs.Interleaving.{keepIf, withKey, All, stateAfter}
 use Rattle.links.specs.Demand3.{Message, Call, callPlace, framesFor, Ready, cutAt, linkOf, Premises, Right, AllCome, First, delivery, called, after, answer, Claim, Demand3}
-use Rattle.links.specs.declared.Side.{Side}
 use Rattle.links.specs.declared.LinkState.the-variants as S
 use Rattle.links.specs.declared.HalfReceived.the-variants as H
-use Rattle.links.specs.declared.Link.{Link}
 use Rattle.links.specs.declared.Found.the-variants.{At}
 use Rattle.links.specs.declared.Refusal.the-variants as R
 use Rattle.links.specs.declared.Answer.{Answer}
@@ -32,7 +30,7 @@ use Rattle.links.specs.declared.Answer.the-variants as A
 use Rattle.links.proofs.Interleaving.{with-key-append, Parts, after-ok, part-after-calls, mixture}
 use Rattle.links.proofs.Come.{sinceStart, Each, has, complete, push, since-start-snoc, has-again, complete-cong, each-complete, complete-each, complete-later, push-has}
 use Rattle.links.proofs.Deliver.{answerTo, one-answer, one-stands}
-use Rattle.links.proofs.Lens.{part-size, station-ext}
+use Rattle.links.proofs.Lens.{right-sized, right-as, part-size, station-ext}
 use Rattle.links.proofs.Frames.{of-cut, indexAt, index-at, come-out, come-in}
 use Rattle.links.proofs.Right.{OpenAt, found, goes, same, other, count, stays}
 use Rattle.links.proofs.Answers.{delivered-told}
@@ -40,7 +38,7 @@ use Rattle.links.proofs.Sockets.{socketAt, place-below, socket-at, is-s
 
 -- ---- the premises and the calls, by places
 
-module _ (side : Side) (σ₀ : Station) (message : Socket → Message) (P : Premises σ₀ message side) where
+module _ (end : End) (σ₀ : Station) (message : Socket → Message) (P : Premises σ₀ message end) where
   abbrev messageAt : ℕ → Message
   messageAt s = message (socketAt s)
 
@@ -50,7 +48,7 @@ module _ (side : Side) (σ₀ : Station) (message : Socket → Message) (P : Pre
   abbrev idAt : ℕ → ℕ
   idAt s = getD (σ₀ .links) s noLink .id
 
-  readyAt : (s : ℕ) → s < length (σ₀ .links) → Ready side (getD (σ₀ .links) s noLink) (messageAt s)
+  readyAt : (s : ℕ) → s < length (σ₀ .links) → Ready (sideOf end) (getD (σ₀ .links) s noLink) (messageAt s)
   readyAt s b =
       let q : s + 1 - 1 ≡ s = omega arith in
       rw q at (P .ready (socketAt s) (is-socket s (length (σ₀ .links)) b))
@@ -85,7 +83,7 @@ module _ (side : Side) (σ₀ : Station) (message : Socket → Message) (P : Pre
   record Ok (σ : Station) : Type 0 where
     count : length (σ .links) ≡ length (σ₀ .links)
     room : length (σ .area) ≡ 1469 * length (σ₀ .links)
-    notBad : good side (σ .links) ≡ true
+    notBad : good (sideOf end) (σ .links) ≡ true
     isOpen : (s : ℕ) → s < length (σ₀ .links) → getLink s σ .link .state ≡ S.Open
     ids : (s : ℕ) → s < length (σ₀ .links) → getLink s σ .link .id ≡ idAt s
 
@@ -98,11 +96,11 @@ module _ (side : Side) (σ₀ : Station) (message : Socket → Message) (P : Pre
   atLink x c = oneSegment (callPlace c) x (indexAt (c .frame))
 
   abbrev step : Station → Call → Answer × Station
-  step = called σ₀ message (received side)
+  step = called σ₀ message (received end)
 
-  openAt : (σ : Station) → Ok σ → (s : ℕ) → s < length (σ₀ .links) → OpenAt side σ s (idAt s)
+  openAt : (σ : Station) → Ok σ → (s : ℕ) → s < length (σ₀ .links) → OpenAt end σ s (idAt s)
   openAt σ o s b = record {
-    sized = omega (arith, o .count, o .room);
+    right = right-as end σ₀ σ (o .count) (o .room ∙ sym (right-sized end σ₀ (P .right))) (P .right);
     notBad = o .notBad;
     below = omega (arith, o .count);
     isOpen = o .isOpen s b;
@@ -113,31 +111,31 @@ module _ (side : Side) (σ₀ : Station) (message : Socket → Message) (P : Pre
     abbrev place : ℕ
     place = callPlace c
 
-    abbrev open-here : OpenAt side σ place (idAt place)
+    abbrev open-here : OpenAt end σ place (idAt place)
     open-here = openAt σ o place (r .place)
 
-    ready-here : Ready side (getD (σ₀ .links) place noLink) (messageAt place)
+    ready-here : Ready (sideOf end) (getD (σ₀ .links) place noLink) (messageAt place)
     ready-here = readyAt place (r .place)
 
     asked : SegmentAsked (octetsAt place) (indexAt (c .frame))
     asked = record { some-octets = ready-here .some-octets; few-octets = ready-here .few-octets; index = r .index }
 
     goes-at : step σ c ≡ (atLink (getLink place σ) c .0, putLink place (atLink (getLink place σ) c .1) σ)
-    goes-at = goes side σ place _ open-here (messageAt place .number) (octetsAt place) (indexAt (c .frame)) asked (ready-here .number) (c .frame) (r .frame)
+    goes-at = goes end σ place _ open-here (messageAt place .number) (octetsAt place) (indexAt (c .frame)) asked (ready-here .number) (c .frame) (r .frame)
 
     next-same : getLink place (step σ c .1) ≡ atLink (getLink place σ) c .1
-    next-same = same side σ place _ open-here (messageAt place .number) (octetsAt place) (indexAt (c .frame)) asked (ready-here .number) (c .frame) (r .frame)
+    next-same = same end σ place _ open-here (messageAt place .number) (octetsAt place) (indexAt (c .frame)) asked (ready-here .number) (c .frame) (r .frame)
 
     next-other : (j : ℕ) → place ≢ j → getLink j (step σ c .1) ≡ getLink j σ
-    next-other = other side σ place _ open-here (messageAt place .number) (octetsAt place) (indexAt (c .frame)) asked (ready-here .number) (c .frame) (r .frame)
+    next-other = other end σ place _ open-here (messageAt place .number) (octetsAt place) (indexAt (c .frame)) asked (ready-here .number) (c .frame) (r .frame)
 
     next-ok : Ok (step σ c .1)
     next-ok =
-        let z = stays side σ place _ open-here (messageAt place .number) (octetsAt place) (indexAt (c .frame)) asked (ready-here .number) (c .frame) (r .frame) in
-        let n = count side σ place _ open-here (messageAt place .number) (octetsAt place) (indexAt (c .frame)) asked (ready-here .number) (c .frame) (r .frame) ∙ o .count in
+        let z = stays end σ place _ open-here (messageAt place .number) (octetsAt place) (indexAt (c .frame)) asked (ready-here .number) (c .frame) (r .frame) in
+        let n = count end σ place _ open-here (messageAt place .number) (octetsAt place) (indexAt (c .frame)) asked (ready-here .number) (c .frame) (r .frame) ∙ o .count in
         record {
           count = n;
-          room = z .sized ∙ ap (λ (l : ℕ). 1469 * l) n;
+          room = right-sized end _ (z .right) ∙ ap (λ (l : ℕ). 1469 * l) n;
           notBad = z .notBad;
           isOpen = λ j b. cases (eqb place j)
               (λ e. rw (← (eqb-true place j e)) (z .isOpen)) (λ e. rw (next-other j (eqb-false place j e)) (o .isOpen j b));
@@ -157,15 +155,15 @@ module _ (side : Side) (σ₀ : Station) (message : Socket → Message) (P : Pre
 
   starts : Ok σ₀
   unfolding getLink
-  starts = record { count = refl; room = P .room; notBad = P .notBad; isOpen = λ s b. readyAt s b .isOpen; ids = λ s b. refl }
+  starts = record { count = refl; room = right-sized end σ₀ (P .right); notBad = P .notBad; isOpen = λ s b. readyAt s b .isOpen; ids = λ s b. refl }
 
   ok-after : (cs : List Call) → All RightAt cs → Ok (stateAfter step σ₀ cs)
   ok-after cs r = after-ok callPlace step (length (σ₀ .links)) getLink atLink Ok RightAt parts σ₀ cs starts r
 
   -- after any right calls, a link's Link ID still finds its socket
   pub found-after : (cs : List Call) → All (Right σ₀ message) cs → (s : Socket) → isSocket s (length (σ₀ .links)) ≡ true
-      → find (after σ₀ message (received side) cs .links) (linkOf σ₀ message s .id) ≡ At (socketPlace s)
-  found-after cs r s b = found side _ (socketPlace s) _ (openAt _ (ok-after cs (all-at cs r)) (socketPlace s) (place-below s (length (σ₀ .links)) b))
+      → find (after σ₀ message (received end) cs .links) (linkOf σ₀ message s .id) ≡ At (socketPlace s)
+  found-after cs r s b = found end _ (socketPlace s) _ (openAt _ (ok-after cs (all-at cs r)) (socketPlace s) (place-below s (length (σ₀ .links)) b))
 
   -- ---- a link's own calls, as the numbers of their segments
 
@@ -203,7 +201,7 @@ module _ (side : Side) (σ₀ : Station) (message : Socket → Message) (P : Pre
     nothing = readyAt s b .nothing
 
     roomy : length (octetsAt s) ≤ length (getLink s σ₀ .part)
-    roomy = omega (arith, part-size (length (σ₀ .links)) σ₀ refl (P .room) s b, readyAt s b .few-octets)
+    roomy = omega (arith, part-size (length (σ₀ .links)) σ₀ refl (right-sized end σ₀ (P .right)) s b, readyAt s b .few-octets)
 
   -- EVERY ANSWER
   every-answer : (pre : List Call) (c : Call) → All RightAt pre → RightAt c
@@ -299,12 +297,12 @@ all-front P (x ∷ a) b h = (h .0, all-front P a b (h .1))
 
 -- ---- the claim
 
-module _ (side : Side) (σ : Station) (message : Socket → Message) (P : Premises σ message side) where
+module _ (end : End) (σ : Station) (message : Socket → Message) (P : Premises σ message end) where
   abbrev segments : ℕ → List Call → List ℕ
-  segments s cs = segmentsAt side σ message P s cs
+  segments s cs = segmentsAt end σ message P s cs
 
   abbrev lastOf : ℕ → ℕ
-  lastOf s = lastAt side σ message P s
+  lastOf s = lastAt end σ message P s
 
   segments-append : (s : ℕ) (a b : List Call) → segments s (a ++ b) ≡ segments s a ++ segments s b
   segments-append s a b =
@@ -318,7 +316,7 @@ module _ (side : Side) (σ : Station) (message : Socket → Message) (P : Premis
       → complete (lastOf (socketPlace s)) (sinceStart (segments (socketPlace s) (pre ++ (c ∷ more)))) ≡ true
   come-later s b pre c more h =
       rw (← (append-assoc pre (c ∷ []) more), segments-append (socketPlace s) (pre ++ (c ∷ [])) more)
-      (complete-later (lastOf (socketPlace s)) (segments (socketPlace s) (pre ++ (c ∷ []))) (segments (socketPlace s) more) (all-come side σ message P s b (pre ++ (c ∷ [])) h))
+      (complete-later (lastOf (socketPlace s)) (segments (socketPlace s) (pre ++ (c ∷ []))) (segments (socketPlace s) more) (all-come end σ message P s b (pre ++ (c ∷ [])) h))
 
   module _ (pre : List Call) (c : Call) (post : List Call) (r : All (Right σ message) (pre ++ (c ∷ post))) where
     right-here : All (Right σ message) pre × Right σ message c × All (Right σ message) post
@@ -332,51 +330,51 @@ module _ (side : Side) (σ : Station) (message : Socket → Message) (P : Premis
 
     -- the message by its place
     abbrev m : Message
-    m = messageAt side σ message P (callPlace c)
+    m = messageAt end σ message P (callPlace c)
 
-    answers-here : called σ message (received side) (after σ message (received side) pre) c .0 ≡ answerTo (m .octets) (m .number) (sinceStart (segments (callPlace c) pre)) (indexAt (c .frame))
-    answers-here = every-answer side σ message P pre c (all-at side σ message P pre (right-here .0)) (right-at side σ message P c (right-here .1))
+    answers-here : called σ message (received end) (after σ message (received end) pre) c .0 ≡ answerTo (m .octets) (m .number) (sinceStart (segments (callPlace c) pre)) (indexAt (c .frame))
+    answers-here = every-answer end σ message P pre c (all-at end σ message P pre (right-here .0)) (right-at end σ message P c (right-here .1))
 
-    due-here : First σ message pre c → answer σ message (received side) pre c ≡ delivery σ message (c .socket)
+    due-here : First σ message pre c → answer σ message (received end) pre c ≡ delivery σ message (c .socket)
     due-here f =
         ap told (answers-here
         ∙ delivery-in (m .octets) (m .number) (segments (callPlace c) pre) (indexAt (c .frame))
-        (rw (segments-snoc pre c) at (all-come side σ message P (c .socket) is-one (pre ++ (c ∷ [])) (f .0)))
-        (not-come side σ message P (c .socket) is-one pre (right-here .0) (f .1)))
-        ∙ ap (λ (m : Message). answered "delivered" (length (m .octets) ∷ m .number .0 ∷ [])) (message-at side σ message P (c .socket) is-one)
+        (rw (segments-snoc pre c) at (all-come end σ message P (c .socket) is-one (pre ++ (c ∷ [])) (f .0)))
+        (not-come end σ message P (c .socket) is-one pre (right-here .0) (f .1)))
+        ∙ ap (λ (m : Message). answered "delivered" (length (m .octets) ∷ m .number .0 ∷ [])) (message-at end σ message P (c .socket) is-one)
 
-    only-here : (values : List ℕ) → answer σ message (received side) pre c ≡ answered "delivered" values → First σ message pre c
+    only-here : (values : List ℕ) → answer σ message (received end) pre c ≡ answered "delivered" values → First σ message pre c
     only-here values e =
         let d = delivered-told _ values e in
         let w = delivery-out (m .octets) (m .number) (segments (callPlace c) pre) (indexAt (c .frame)) (d .long) (d .number) (sym answers-here ∙ d .is) in (
-          come-all side σ message P (c .socket) is-one (pre ++ (c ∷ [])) right-next (rw (segments-snoc pre c) (w .0)),
-          λ h. false≢true (sym (w .1) ∙ all-come side σ message P (c .socket) is-one pre h),
+          come-all end σ message P (c .socket) is-one (pre ++ (c ∷ [])) right-next (rw (segments-snoc pre c) (w .0)),
+          λ h. false≢true (sym (w .1) ∙ all-come end σ message P (c .socket) is-one pre h),
         )
 
   stand-here : (pre : List Call) (c : Call) (more post : List Call) → All (Right σ message) (pre ++ (c ∷ (more ++ post))) → First σ message pre c
-      → take (length (message (c .socket) .octets)) (ofSocket (c .socket) (after σ message (received side) (pre ++ (c ∷ more))) .part) ≡ message (c .socket) .octets
+      → take (length (message (c .socket) .octets)) (ofSocket (c .socket) (after σ message (received end) (pre ++ (c ∷ more))) .part) ≡ message (c .socket) .octets
   stand-here pre c more post r f =
       let b = right-here pre c (more ++ post) r .1 .socket in
       let all = all-front (Right σ message) (pre ++ (c ∷ more)) post (rw (append-assoc pre (c ∷ more) post) r) in
-      subst (λ (m : Message). take (length (m .octets)) (ofSocket (c .socket) (after σ message (received side) (pre ++ (c ∷ more))) .part) ≡ m .octets)
-      (message-at side σ message P (c .socket) b)
-      (octets-stand side σ message P (pre ++ (c ∷ more)) (all-at side σ message P (pre ++ (c ∷ more)) all) (callPlace c) (place-below (c .socket) (length (σ .links)) b)
+      subst (λ (m : Message). take (length (m .octets)) (ofSocket (c .socket) (after σ message (received end) (pre ++ (c ∷ more))) .part) ≡ m .octets)
+      (message-at end σ message P (c .socket) b)
+      (octets-stand end σ message P (pre ++ (c ∷ more)) (all-at end σ message P (pre ++ (c ∷ more)) all) (callPlace c) (place-below (c .socket) (length (σ .links)) b)
       (come-later (c .socket) b pre c more (f .0)))
 
   once-here : (pre : List Call) (c : Call) (mid : List Call) (d : Call) (post : List Call) → All (Right σ message) (pre ++ (c ∷ (mid ++ (d ∷ post)))) → c .socket ≡ d .socket
-      → (values : List ℕ) → answer σ message (received side) pre c ≡ answered "delivered" values
-      → (others : List ℕ) → answer σ message (received side) (pre ++ (c ∷ mid)) d ≡ answered "delivered" others → ⊥
+      → (values : List ℕ) → answer σ message (received end) pre c ≡ answered "delivered" values
+      → (others : List ℕ) → answer σ message (received end) (pre ++ (c ∷ mid)) d ≡ answered "delivered" others → ⊥
   once-here pre c mid d post r q values e others e′ =
       let all : All (Right σ message) ((pre ++ (c ∷ mid)) ++ (d ∷ post)) = rw (append-assoc pre (c ∷ mid) (d ∷ post)) r in
       let b = right-here pre c (mid ++ (d ∷ post)) r .1 .socket in
       let f = only-here pre c (mid ++ (d ∷ post)) r values e in
       let g = only-here (pre ++ (c ∷ mid)) d post all others e′ in
       g .1 (subst (λ (s : Socket). AllCome σ message s (pre ++ (c ∷ mid))) q
-      (come-all side σ message P (c .socket) b (pre ++ (c ∷ mid)) (right-here (pre ++ (c ∷ mid)) d post all .0) (come-later (c .socket) b pre c mid (f .0))))
+      (come-all end σ message P (c .socket) b (pre ++ (c ∷ mid)) (right-here (pre ++ (c ∷ mid)) d post all .0) (come-later (c .socket) b pre c mid (f .0))))
 
-  the-claim : (cs : List Call) → All (Right σ message) cs → Claim σ message (received side) cs
+  the-claim : (cs : List Call) → All (Right σ message) cs → Claim σ message (received end) cs
   the-claim cs r =
-      let m = mixture callPlace (step side σ message P) (length (σ .links)) getLink (atLink side σ message P) (Ok side σ message P) (RightAt side σ message P) (parts side σ message P) σ cs (starts side σ message P) (all-at side σ message P cs r) in
+      let m = mixture callPlace (step end σ message P) (length (σ .links)) getLink (atLink end σ message P) (Ok end σ message P) (RightAt end σ message P) (parts end σ message P) σ cs (starts end σ message P) (all-at end σ message P cs r) in
       record {
         due = λ pre c post e. due-here pre c post (rw e at r);
         onlyThen = λ pre c post e. only-here pre c post (rw e at r);
@@ -388,4 +386,4 @@ module _ (side : Side) (σ : Station) (message : Socket → Message) (P : Premis
 
 -- DEMAND 3
 pub demand3 : Demand3 received
-demand3 side σ message P cs r = the-claim side σ message P cs r
+demand3 end σ message P cs r = the-claim end σ message P cs r

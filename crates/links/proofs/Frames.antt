@@ -1,7 +1,7 @@
 -- The frames of a cut, their segments by number, and the link that a frame is for.
 use Prim.Native.Nat.{ℕ, zero, suc, _+_, _*_, _-_, _%_, _<_}
 use native.Mathlib.Omega.{arith}
-use mathlib.Core.Bool.{true, false, cond}
+use mathlib.Core.Bool.{true, false, cond, false≢true}
 use mathlib.Core.List.{List, [], _∷_, map, List·Memᴰ, List·Memᴰ·head, List·Memᴰ·tail, List·Memᴰ·append-cases, List·Memᴰ·eq-of-singleton, List·Memᴰ·not-nil, Memᴰ·append-left, Memᴰ·append-right}
 use mathlib.Core.Logic.{_⊎_, inl, inr}
 use mathlib.Core.Path.{_≡_, refl, sym, ap, _∙_}
@@ -19,10 +19,12 @@ use Rattle.pb_adv.specs.declared.Parsed.{Parsed}
 use Rattle.pb_adv.proofs.Promises.{id-back}
 use Rattle.pb_adv.proofs.Tables.{IsFrame, start, acknowledgement, continuation, opens, acks, closes, Reads, no-frame, unknown, frame, reads}
 use Rattle.pb_adv_writing.specs.Writing.{headerOf, segmentFrame, messageFrames}
-use Rattle.links.specs.Links.{inUse, find}
+use Rattle.links.specs.Links.{End, provisioner, device, inUse, find}
 use Rattle.links.specs.Station.{Station, noLink, getLink}
 use Rattle.links.specs.Promises.{addressed}
 use Rattle.links.specs.Demand3.{sinceStart as framesSince, AllAmong}
+use Rattle.links.specs.Demand2.{isOther}
+use Rattle.links.specs.Tables.{placeFor}
 use Rattle.links.specs.declared.Link.{Link}
 use Rattle.links.specs.declared.Found.the-variants.{At}
 use Rattle.links.proofs.Come.{sinceStart, Each}
@@ -121,19 +123,42 @@ unfolding segmentFrame segmentOctets headerOf
 frame-id id t m zero = id-back id
 frame-id id t m (suc k) = id-back id
 
--- a frame is for the record that its Link ID finds
-pub whose : (ls : List Link) (f : List ℕ) (s : ℕ) → addressed ls (parsed f) ≡ At s → find ls (linkId f) ≡ At s
-whose ls f s = of (parsed f) (reads f)
+-- a segment or a Close is for the record that its Link ID finds
+pub whose : (end : End) (ls : List Link) (f : List ℕ) (s : ℕ) → isOther (parsed f) ≡ false → addressed end ls (parsed f) ≡ At s → find ls (linkId f) ≡ At s
+whose end ls f s = of (parsed f) (reads f)
   where
-    by-frame : (p : Parsed) → IsFrame f p → addressed ls p ≡ At s → find ls (linkId f) ≡ At s
-    by-frame p (start k e) h = h
-    by-frame p (acknowledgement k) h = h
-    by-frame p (continuation k e) h = h
-    by-frame p (opens k e) h = h
-    by-frame p (acks k e) h = h
-    by-frame p (closes k e) h = h
+    by-frame : (p : Parsed) → IsFrame f p → isOther p ≡ false → addressed end ls p ≡ At s → find ls (linkId f) ≡ At s
+    by-frame p (start k e) o h = h
+    by-frame p (acknowledgement k) o h = h
+    by-frame p (continuation k e) o h = h
+    by-frame p (opens k e) o h = absurd (false≢true (sym o))
+    by-frame p (acks k e) o h = h
+    by-frame p (closes k e) o h = h
 
-    of : (p : Parsed) → Reads f p → addressed ls p ≡ At s → find ls (linkId f) ≡ At s
-    of p (no-frame m) h = cc
-    of p (unknown m n) h = cc
-    of p (frame m n r) h = by-frame p r h
+    of : (p : Parsed) → Reads f p → isOther p ≡ false → addressed end ls p ≡ At s → find ls (linkId f) ≡ At s
+    of p (no-frame m) o h = cc
+    of p (unknown m n) o h = cc
+    of p (frame m n r) o h = by-frame p r o h
+
+-- the record that a frame is for is the one that it is judged by
+pub place-for : (end : End) (ls : List Link) (f : List ℕ) (s : ℕ) → addressed end ls (parsed f) ≡ At s → placeFor end ls f ≡ At s
+place-for end ls f s = of end (parsed f) (reads f)
+  where
+    by-frame : (end : End) (p : Parsed) → IsFrame f p → addressed end ls p ≡ At s → placeFor end ls f ≡ At s
+    by-frame provisioner p (start k e) h = h
+    by-frame provisioner p (acknowledgement k) h = h
+    by-frame provisioner p (continuation k e) h = h
+    by-frame provisioner p (opens k e) h = h
+    by-frame provisioner p (acks k e) h = h
+    by-frame provisioner p (closes k e) h = h
+    by-frame (device own) p (start k e) h = rw k h
+    by-frame (device own) p (acknowledgement k) h = rw k h
+    by-frame (device own) p (continuation k e) h = rw k h
+    by-frame (device own) p (opens k e) h = rw (k, e) h
+    by-frame (device own) p (acks k e) h = rw (k, e) h
+    by-frame (device own) p (closes k e) h = rw (k, e) h
+
+    of : (end : End) (p : Parsed) → Reads f p → addressed end ls p ≡ At s → placeFor end ls f ≡ At s
+    of end p (no-frame m) h = cc
+    of end p (unknown m n) h = cc
+    of end p (frame m n i) h = by-frame end p i h

@@ -22,12 +22,12 @@ use Rattle.transactions.specs.declared.Socket.{Socket}
 use Rattle.pb_adv.specs.Frame.{segmentOctets}
 use Rattle.pb_adv_writing.specs.Writing.{headerOf, segmentFrame}
 use Rattle.links.specs.Marks.{isMarked, withMark}
-use Rattle.links.specs.Links.{findFrom, told}
+use Rattle.links.specs.Links.{provisioner, findFrom, told}
 use Rattle.links.specs.Good.{good}
 use Rattle.links.specs.Station.{Station, getLink, linkAt}
 use Rattle.links.specs.Operations.{receiving, Receiver}
 use Rattle.links.specs.Demand3.{Message, Call, Ready, cutAt, Premises, Right, First, Demand3}
-use Rattle.links.specs.Demand2.{own, Prepared, CutComes, GivenBack, Back}
+use Rattle.links.specs.Demand2.{itsLink, Prepared, CutComes, GivenBack, Back}
 use Rattle.links.specs.Tables.{receivingRows, ReceivingTable}
 use Rattle.links.specs.Idle.{RefusesAll, AlwaysRepeats, StoresNothing, ServesFirst, IdlePrograms}
 use Rattle.links.specs.declared.Side.the-variants.{Provisioner}
@@ -64,16 +64,16 @@ module _ (octets : List ℕ) (one : 1 ≤ length octets) (few : length octets �
   ready : Ready Provisioner link numbered
   ready = record { isOpen = refl; nothing = refl; awaited = record { notLast = refl }; number = refl; some-octets = one; few-octets = few }
 
-  prepared : Prepared Provisioner station first numbered
+  prepared : Prepared provisioner station first numbered
   unfolding good getLink
-  prepared = record { room = refl; notBad = refl; socket = refl; ready = ready }
+  prepared = record { right = refl; notBad = refl; socket = refl; ready = ready }
 
 -- whose only segment is this frame
-is-whole : List·Memᴰ whole (cutAt (own Provisioner station first short) short)
+is-whole : List·Memᴰ whole (cutAt (itsLink provisioner station first short) short)
 unfolding getLink upTo
 is-whole = List·Memᴰ·head refl
 
-comes : CutComes Provisioner station first short (receiving whole ∷ [])
+comes : CutComes provisioner station first short (receiving whole ∷ [])
 unfolding getLink upTo
 comes = record { before = []; since = []; split = refl; cut = λ f h. of f (List·Memᴰ·cases-cons h) }
   where
@@ -81,20 +81,20 @@ comes = record { before = []; since = []; split = refl; cut = λ f h. of f (List
     of f (inl e) = List·Memᴰ·head (ap receiving e)
     of f (inr h) = absurd (List·Memᴰ·not-nil h)
 
-given-back : (receive : Receiver) → Back receive → GivenBack Provisioner station first short (receive Provisioner) (receiving whole ∷ [])
+given-back : (receive : Receiver) → Back receive → GivenBack provisioner station first short (receive provisioner) (receiving whole ∷ [])
 unfolding getLink upTo
-given-back receive b = b Provisioner station first short (prepared (1 ∷ []) (omega arith) (omega arith)) (receiving whole ∷ []) (inl is-whole, tt) comes
+given-back receive b = b provisioner station first short (prepared (1 ∷ []) (omega arith) (omega arith)) (receiving whole ∷ []) (inl is-whole, tt) comes
 
-refuses-all : (receive : Receiver) → RefusesAll receive → Back receive → ⊥
+refuses-all : (receive : Receiver) → RefusesAll (receive provisioner) → Back receive → ⊥
 refuses-all receive h b =
     let g = given-back receive b in
-    other-told _ _ refl (sym (h Provisioner _ (g .frame) .1) ∙ g .delivered)
+    other-told _ _ refl (sym (h _ (g .frame) .1) ∙ g .delivered)
 
-stores-nothing : (receive : Receiver) → StoresNothing receive → Back receive → ⊥
+stores-nothing : (receive : Receiver) → StoresNothing (receive provisioner) → Back receive → ⊥
 unfolding getLink
 stores-nothing receive h b =
     let g = given-back receive b in
-    let e : _≡_ {A = List ℕ} (0 ∷ []) (1 ∷ []) = rw (h Provisioner station whole) at (g .stands) in
+    let e : _≡_ {A = List ℕ} (0 ∷ []) (1 ∷ []) = rw (h station whole) at (g .stands) in
     let z : _≡_ {A = ℕ} 0 1 = cc in omega arith
 
 abbrev all-octets : List ℕ → Bool
@@ -107,19 +107,19 @@ octets-all (x ∷ l) e zero = ltb-true x 256 (both-hold {a = ltb x 256} {b = all
 octets-all (x ∷ l) e (suc i) = octets-all l (both-hold {a = ltb x 256} {b = all-octets l} e .1) i
 
 -- the row of a frame's answer, worked out
-by-row : (receive : Receiver) → ReceivingTable receive → (f : List ℕ) → all-octets f ≡ true → (a : Told) → firstOf (receivingRows Provisioner station f) ≡ some a
-    → told (receive Provisioner station f .0) ≡ a
+by-row : (receive : Receiver) → ReceivingTable receive → (f : List ℕ) → all-octets f ≡ true → (a : Told) → firstOf (receivingRows provisioner station f) ≡ some a
+    → told (receive provisioner station f .0) ≡ a
 by-row receive t f o a e =
-    let q : some a ≡ some (told (receive Provisioner station f .0)) = sym e ∙ t Provisioner station f (octets-all f o) .first in
+    let q : some a ≡ some (told (receive provisioner station f .0)) = sym e ∙ t provisioner station f (octets-all f o) .first in
     cc
 
-is-delivered : (receive : Receiver) → ReceivingTable receive → told (receive Provisioner station whole .0) ≡ answered "delivered" (1 ∷ 0x80 ∷ [])
+is-delivered : (receive : Receiver) → ReceivingTable receive → told (receive provisioner station whole .0) ≡ answered "delivered" (1 ∷ 0x80 ∷ [])
 unfolding good findFrom getLink segmentFrame segmentOctets headerOf piece checkOctet octetStep bitStep isMarked withMark write
 is-delivered receive t = by-row receive t whole refl _ refl
 
-always-repeats : (receive : Receiver) → AlwaysRepeats receive → ReceivingTable receive → ⊥
+always-repeats : (receive : Receiver) → AlwaysRepeats (receive provisioner) → ReceivingTable receive → ⊥
 always-repeats receive h t =
-    other-told _ _ refl (sym (is-delivered receive t) ∙ h Provisioner station first short (prepared (1 ∷ []) (omega arith) (omega arith)) whole is-whole)
+    other-told _ _ refl (sym (is-delivered receive t) ∙ h station first short (prepared (1 ∷ []) (omega arith) (omega arith)) whole is-whole)
 
 -- ---- a message of three segments
 
@@ -132,9 +132,9 @@ segment k = segmentFrame 0 (long .number) (long .octets) k
 abbrev brings : ℕ → Call
 brings k = record { socket = first; frame = segment k }
 
-premises : Premises station (λ _. long) Provisioner
+premises : Premises station (λ _. long) provisioner
 unfolding good
-premises = record { room = refl; notBad = refl; ready = at }
+premises = record { right = refl; notBad = refl; ready = at }
   where
     at : (s : Socket) → isSocket s 1 ≡ true → Ready Provisioner (linkAt (link ∷ []) s) long
     at s e =
@@ -171,22 +171,22 @@ third-early : First station (λ _. long) (brings 0 ∷ []) (brings 2) → ⊥
 unfolding segmentFrame segmentOctets headerOf
 third-early h = not-among 1 0 2 (omega arith) (omega arith) (h .0 (segment 1) (right-1 .segment))
 
-is-kept : (receive : Receiver) → ReceivingTable receive → told (receive Provisioner station (segment 0) .0) ≡ answered "kept" []
+is-kept : (receive : Receiver) → ReceivingTable receive → told (receive provisioner station (segment 0) .0) ≡ answered "kept" []
 unfolding good findFrom getLink segmentFrame segmentOctets headerOf piece checkOctet octetStep bitStep isMarked withMark
 is-kept receive t = by-row receive t (segment 0) refl _ refl
 
-first-stays : (receive : Receiver) → ServesFirst receive → told (receive Provisioner station (segment 0) .0) ≡ answered "kept" []
-    → receive Provisioner (receive Provisioner station (segment 0) .1) (segment 1) .1 ≡ receive Provisioner station (segment 0) .1
+first-stays : (receive : Receiver) → ServesFirst (receive provisioner) → told (receive provisioner station (segment 0) .0) ≡ answered "kept" []
+    → receive provisioner (receive provisioner station (segment 0) .1) (segment 1) .1 ≡ receive provisioner station (segment 0) .1
 unfolding getLink upTo segmentFrame segmentOctets headerOf
 first-stays receive h =
-    h Provisioner station first long (prepared (replicate 44 0) (omega arith) (omega arith)) (segment 0) (segment 1) (List·Memᴰ·head refl) (List·Memᴰ·tail (List·Memᴰ·head refl))
+    h station first long (prepared (replicate 44 0) (omega arith) (omega arith)) (segment 0) (segment 1) (List·Memᴰ·head refl) (List·Memᴰ·tail (List·Memᴰ·head refl))
     (λ e. let z : _≡_ {A = ℕ} 8 6 = ap (λ (l : List ℕ). getD l 5 0) e in omega arith)
 
-serves-first : (receive : Receiver) → ServesFirst receive → ReceivingTable receive → Demand3 receive → ⊥
+serves-first : (receive : Receiver) → ServesFirst (receive provisioner) → ReceivingTable receive → Demand3 receive → ⊥
 serves-first receive h t d =
     let stays = first-stays receive h (is-kept receive t) in
-    let all = d Provisioner station (λ _. long) premises (brings 0 ∷ brings 1 ∷ brings 2 ∷ []) (right-0, (right-1, (right-2, tt))) in
-    let two = d Provisioner station (λ _. long) premises (brings 0 ∷ brings 2 ∷ []) (right-0, (right-2, tt)) in
+    let all = d provisioner station (λ _. long) premises (brings 0 ∷ brings 1 ∷ brings 2 ∷ []) (right-0, (right-1, (right-2, tt))) in
+    let two = d provisioner station (λ _. long) premises (brings 0 ∷ brings 2 ∷ []) (right-0, (right-2, tt)) in
     third-early (two .onlyThen (brings 0 ∷ []) (brings 2) [] refl _ (rw stays at (all .due (brings 0 ∷ brings 1 ∷ []) (brings 2) [] refl third-due)))
 
 pub idle-programs : IdlePrograms

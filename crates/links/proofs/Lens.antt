@@ -13,14 +13,46 @@ use borrow.Author.Tests.{eqb-true, eqb-false, eq-eqb, ne-eqb, leb-true, leb-fals
 use Rattle.octets.specs.Parts.{part, write}
 use Rattle.octets.proofs.Parts.{part-length, take-part, write-length, part-same, part-before, part-after}
 use Rattle.octets.proofs.Tests.{cases, both, both-hold, holds-both}
-use Rattle.links.specs.Links.{inUse, hasId, findFrom, find}
+use Rattle.pb_adv.specs.Frame.{isUuid}
+use Rattle.links.specs.Links.{End, provisioner, device, inUse, hasId, findFrom, find}
 use Rattle.links.specs.Good.{goodLink, apart, all, allApart, good}
 use Rattle.links.specs.Segments.{OneLink}
-use Rattle.links.specs.Station.{Station, noLink, getLink, putLink}
+use Rattle.links.specs.Station.{Station, noLink, getLink, putLink, isRight}
 use Rattle.links.specs.declared.Side.{Side}
 use Rattle.links.specs.declared.Link.{Link}
 use Rattle.links.specs.declared.Found.{Found}
 use Rattle.links.specs.declared.Found.the-variants.{At, Nowhere}
+
+-- ---- right arguments
+
+-- a station whose area has 1,469 octets for each record
+abbrev pub Sized : Station → Type 0
+Sized σ = length (σ .area) ≡ 1469 * length (σ .links)
+
+pub right-sized : (end : End) (σ : Station) → isRight end σ ≡ true → Sized σ
+right-sized provisioner σ h = eqb-true (length (σ .area)) (1469 * length (σ .links)) h
+right-sized (device own) σ h =
+    eqb-true (length (σ .area)) (1469 * length (σ .links))
+    (both-hold {a = eqb (length (σ .area)) (1469 * length (σ .links))} {b = eqb (length (σ .links)) 1 && isUuid own} h .0)
+
+pub sized-right : (σ : Station) → Sized σ → isRight provisioner σ ≡ true
+sized-right σ h = eq-eqb (length (σ .area)) (1469 * length (σ .links)) h
+
+-- a device has one record, and its UUID 16 octets
+module _ (own : List ℕ) (σ : Station) (right : isRight (device own) σ ≡ true) where
+  one-and-uuid : (eqb (length (σ .links)) 1 && isUuid own) ≡ true
+  one-and-uuid = both-hold {a = eqb (length (σ .area)) (1469 * length (σ .links))} {b = eqb (length (σ .links)) 1 && isUuid own} right .1
+
+  pub right-one : length (σ .links) ≡ 1
+  right-one = eqb-true (length (σ .links)) 1 (both-hold {a = eqb (length (σ .links)) 1} {b = isUuid own} one-and-uuid .0)
+
+  pub right-uuid : length own ≡ 16
+  right-uuid = eqb-true (length own) 16 (both-hold {a = eqb (length (σ .links)) 1} {b = isUuid own} one-and-uuid .1)
+
+-- they are right for every station of that size
+pub right-as : (end : End) (σ τ : Station) → length (τ .links) ≡ length (σ .links) → length (τ .area) ≡ length (σ .area) → isRight end σ ≡ true → isRight end τ ≡ true
+right-as provisioner σ τ c a h = rw (c, a) h
+right-as (device own) σ τ c a h = rw (c, a) h
 
 -- ---- one socket's record and part
 

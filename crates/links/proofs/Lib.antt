@@ -9,6 +9,7 @@ pub mod Local
 pub mod Lens
 pub mod Keep
 pub mod Bad
+pub mod Opens
 pub mod Leaves
 pub mod Frames
 pub mod Right
@@ -18,5 +19,8 @@ pub mod Promises
 pub mod Back
 pub mod Only
 pub mod Opened
+pub mod Rows
 pub mod Tables
+pub mod Halves
 pub mod Idle
+pub mod Device

@@ -21,19 +21,19 @@ use Rattle.pb_adv.specs.Frame.{parsed, segmentOctets}
 use Rattle.transactions.specs.declared.TransactionNumber.{TransactionNumber}
 use Rattle.transactions.specs.declared.Socket.{Socket}
 use Rattle.pb_adv.specs.declared.SegmentHeader.{SegmentHeader}
-use Rattle.pb_adv.specs.declared.Parsed.the-variants as P
+use Rattle.pb_adv.specs.declared.Parsed.{Parsed}
 use Rattle.pb_adv.proofs.Promises.{segments-are-encodings}
 use Rattle.pb_adv_writing.specs.Writing.{headerOf, segmentFrame}
 use Rattle.links.specs.Marks.{isMarked, withMark, allMarked}
+use Rattle.links.specs.Links.{End, sideOf}
 use Rattle.links.specs.Good.{goodLink, good}
 use Rattle.links.specs.Segments.{OneLink, marked}
-use Rattle.links.specs.Station.{Station, noLink, getLink, frameStep, atSocket, received}
+use Rattle.links.specs.Station.{Station, noLink, getLink, openStep, isRight, received}
 use Rattle.links.specs.Interleaving.{All, BeforeEach}
-use Rattle.links.specs.Operations.{Operation, receiving, opening, sending, closing, operate, afterAll, OfOctets}
-use Rattle.links.specs.Promises.{Sized, addressed}
+use Rattle.links.specs.Operations.{Operation, receiving, opening, sending, closing, operate, afterAll, Offered}
+use Rattle.links.specs.Promises.{addressed}
 use Rattle.links.specs.Demand3.{Message}
 use Rattle.links.specs.Demand2.{OpenUnder, Receiving, CameByCut, FromCut, Delivery, Only}
-use Rattle.links.specs.declared.Side.{Side}
 use Rattle.links.specs.declared.LinkState.the-variants as S
 use Rattle.links.specs.declared.HalfMessage.{HalfMessage}
 use Rattle.links.specs.declared.HalfReceived.{HalfReceived}
@@ -49,13 +49,29 @@ use Rattle.links.proofs.View.{headerAt, IfDelivered, if-delivered, Orig
 use Rattle.links.proofs.Sound.{Kept, stays, drops, kept-same, Ends, isWhole, isWrong, isKept, ends, keeps, enters, frame-does}
 use Rattle.links.proofs.Local.{open-after, send-after, close-after}
 use Rattle.links.proofs.Sound as Link
-use Rattle.links.proofs.Lens.{part-size, get-put, good-get}
+use Rattle.links.proofs.Lens.{right-sized, part-size, get-put, good-get}
 use Rattle.links.proofs.Keep.{GoodMessage, message-out, open-out, good-as}
-use Rattle.links.proofs.Promises.{refuses, steps, does, stepped-keeps, received-at, after-count}
+use Rattle.links.proofs.Promises.{stepOf, by-step, placed, refuses, steps, does, stepped-keeps, received-at, after-count}
 use Rattle.links.proofs.Promises as Promise
+use Rattle.links.proofs.Opens.{Opens, finds, begins, opens}
+use Rattle.links.proofs.Opens as Opening
 use Rattle.links.proofs.Frames.{found-id, of-cut}
 use Rattle.links.proofs.Answers.{IsDelivered, delivered-told}
 use Rattle.links.proofs.Sockets.{socketAt, is-socket}
+
+-- ---- an Open at a device's link leaves what is half-received, or drops it
+
+open-does : (own : List ℕ) (x : OneLink) (f : List ℕ) (o : Octets f) (id uuid : ℕ) {p : Parsed} → Link.Does x f o p (openStep own x f id uuid)
+open-does own x f o id uuid {p} = of (opens own x f id uuid)
+  where
+    of : {q : Answer × OneLink} → Opens own x f id uuid q → Link.Does x f o p q
+    of (Opening.refuses r n e) = rw e (keeps tt refl (kept-same (x .link)))
+    of (finds e) = rw e (keeps tt refl (kept-same (x .link)))
+    of (begins u n e) = rw e (keeps tt refl (drops refl))
+
+step-does : (end : End) (x : OneLink) (f : List ℕ) (o : Octets f) → Link.Does x f o (parsed f) (stepOf end x f (parsed f))
+step-does end x f o =
+    by-step (Link.Does x f o (parsed f)) end x f (parsed f) (λ own id uuid _ _. open-does own x f o id uuid) (frame-does x f o (sideOf end))
 
 -- ---- a half-received message, if there is one
 
@@ -75,13 +91,13 @@ standing id p h k = receiving (segmentOctets id (h .number) (headerAt (h .length
 abbrev remarked : HalfMessage → ℕ → HalfMessage
 remarked h w = record { number = h .number; length = h .length; check = h .check; marks = w }
 
-module _ (side : Side) (σ : Station) (socket : Socket) where
+module _ (end : End) (σ : Station) (socket : Socket) where
   -- its place
   abbrev s : ℕ
   s = socketPlace socket
 
   abbrev after : List Operation → Station
-  after past = afterAll side σ past
+  after past = afterAll end σ past
 
   -- the half-received message h, whose octets stand in p: a Start began it, the link has had it since, and every marked segment has come since
   record Since (past : List Operation) (id : ℕ) (p : List ℕ) (h : HalfMessage) : Type 0 where
@@ -91,7 +107,7 @@ module _ (side : Side) (σ : Station) (socket : Socket) where
     split : past ≡ before ++ (start ∷ since)
     opened : OpenUnder id (getLink s (after before))
     began : (g : HalfMessage) → getLink s (after before) .link .half ≡ H.Message g → g .number ≢ h .number
-    held : BeforeEach (operate side) (λ τ. Receiving id (h .number) (h .length) (getLink s τ)) (after (before ++ (start ∷ []))) since
+    held : BeforeEach (operate end) (λ τ. Receiving id (h .number) (h .length) (getLink s τ)) (after (before ++ (start ∷ []))) since
     first : start ≡ standing id p h 0
     came : (k : ℕ) → k ≤ segN (h .length) → isMarked (h .marks) k ≡ true → List·Memᴰ (standing id p h k) (start ∷ since)
 
@@ -116,7 +132,7 @@ module _ (side : Side) (σ : Station) (socket : Socket) where
     unfolding segmentFrame
     frame-same k = rw (header-same k, long, piece-take segmentPlace refl (place-up 20 23) (h .length) p k)
 
-    by-cut : Since past id p h → allMarked (segN (h .length)) (h .marks) ≡ true → CameByCut side σ socket id (record { number = h .number; octets = message }) past
+    by-cut : Since past id p h → allMarked (segN (h .length)) (h .marks) ≡ true → CameByCut end σ socket id (record { number = h .number; octets = message }) past
     by-cut i all = record {
       before = i .before;
       start = i .start;
@@ -140,7 +156,7 @@ module _ (side : Side) (σ : Station) (socket : Socket) where
     -- what an operation leaves of the link
     record Leaves (r : Answer × OneLink) : Type 0 where
       half : Sound (past ++ (c ∷ [])) (r .1)
-      told : IfDelivered (λ n t. (length (take n (r .1 .part)) ≡ n) × CameByCut side σ socket (here .link .id) (record { number = t; octets = take n (r .1 .part) }) (past ++ (c ∷ []))) (r .0)
+      told : IfDelivered (λ n t. (length (take n (r .1 .part)) ≡ n) × CameByCut end σ socket (here .link .id) (record { number = t; octets = take n (r .1 .part) }) (past ++ (c ∷ []))) (r .0)
 
     extends : (id : ℕ) (p : List ℕ) (h : HalfMessage) (i : Since past id p h) → Receiving id (h .number) (h .length) here
         → (q : List ℕ) (w : ℕ) → standing id p h 0 ≡ standing id q h 0
@@ -153,7 +169,7 @@ module _ (side : Side) (σ : Station) (socket : Socket) where
       split = ap (λ (l : List Operation). l ++ (c ∷ [])) (i .split) ∙ append-assoc (i .before) (i .start ∷ i .since) (c ∷ []);
       opened = i .opened;
       began = i .began;
-      held = before-each-snoc (operate side) _ σ (i .before) (i .start) (i .since) c (i .held) (rw (← (i .split)) now);
+      held = before-each-snoc (operate end) _ σ (i .before) (i .start) (i .since) c (i .held) (rw (← (i .split)) now);
       first = i .first ∙ e;
       came = g;
     }
@@ -171,7 +187,7 @@ module _ (side : Side) (σ : Station) (socket : Socket) where
     goes-on y i e (drops half) = rw half tt
 
     -- that brings a new segment
-    module _ (sized : length (here .part) ≡ 1469) (linkGood : goodLink side (here .link) ≡ true) (opened : here .link .state ≡ S.Open) (i : Sound past here)
+    module _ (sized : length (here .part) ≡ 1469) (linkGood : goodLink (sideOf end) (here .link) ≡ true) (opened : here .link .state ≡ S.Open) (i : Sound past here)
         (t : TransactionNumber) (header : SegmentHeader) (d : List ℕ) (h : HalfMessage) (k : ℕ) (n : New here t header d h k)
         (this : c ≡ receiving (segmentOctets (here .link .id) t header d)) where
       abbrev id : ℕ
@@ -180,10 +196,10 @@ module _ (side : Side) (σ : Station) (socket : Socket) where
       abbrev written : List ℕ
       written = write (here .part) (segmentPlace k) d
 
-      good-half : here .link .half ≡ H.Message h → GoodMessage side (here .link .last) h
+      good-half : here .link .half ≡ H.Message h → GoodMessage (sideOf end) (here .link .last) h
       good-half e =
-          let o = open-out side (here .link) (good-as side (here .link) opened linkGood) in
-          message-out side (here .link .last) h (rw e at (o .2))
+          let o = open-out (sideOf end) (here .link) (good-as (sideOf end) (here .link) opened linkGood) in
+          message-out (sideOf end) (here .link .last) h (rw e at (o .2))
 
       lengths : Origin here t header d h k → (1 ≤ h .length) × (h .length ≤ length (here .part))
       lengths (held e) = let g = good-half e in (g .some-octets, omega (arith, g .few-octets))
@@ -240,9 +256,9 @@ module _ (side : Side) (σ : Station) (socket : Socket) where
     same : Sound (past ++ (receiving f ∷ [])) (getLink s (after past))
     same = goes-on past (receiving f) (getLink s (after past)) i refl (kept-same (getLink s (after past) .link))
 
-    at-link : Sized (after past) → good side (after past .links) ≡ true → s < length (after past .links) → addressed (after past .links) (parsed f) ≡ At s
-        → Leaves past (receiving f) (frameStep side (getLink s (after past)) (getLink s (after past) .link .state) f (parsed f))
-    at-link sized stateGood below at = of (frame-does (getLink s (after past)) f o side)
+    at-link : isRight end (after past) ≡ true → good (sideOf end) (after past .links) ≡ true → s < length (after past .links) → addressed end (after past .links) (parsed f) ≡ At s
+        → Leaves past (receiving f) (stepOf end (getLink s (after past)) f (parsed f))
+    at-link right stateGood below at = of (step-does end (getLink s (after past)) f o)
       where
         of : {r : Answer × OneLink} → Link.Does (getLink s (after past)) f o (parsed f) r → Leaves past (receiving f) r
         of {r} (keeps q e k) = record { half = goes-on past (receiving f) (r .1) i e k; told = if-delivered (λ n t. ⊥) _ (λ n t z. absurd z) (r .0) q }
@@ -250,11 +266,11 @@ module _ (side : Side) (σ : Station) (socket : Socket) where
             let d = part f (g .from) (g .count) in
             let w = segments-are-encodings f o g e in
             let id = found-id (after past) s (g .id) (rw e at at) in
-            rw q (ended past (receiving f) (part-size (length (after past .links)) (after past) refl sized s below) (good-get side (after past) s stateGood below) opened i
+            rw q (ended past (receiving f) (part-size (length (after past .links)) (after past) refl (right-sized end (after past) right) s below) (good-get (sideOf end) (after past) s stateGood below) opened i
             (g .number) (g .header) d h k n (ap receiving (w .encoded ∙ ap (λ (j : ℕ). segmentOctets j (g .number) (g .header) d) id)) (ends (getLink s (after past)) h k d))
 
-    received-sound : Sound (past ++ (receiving f ∷ [])) (getLink s (received side (after past) f .1))
-    received-sound = received-at side (after past) f o s (Sound (past ++ (receiving f ∷ []))) same (λ sized stateGood below at. at-link sized stateGood below at .half)
+    received-sound : Sound (past ++ (receiving f ∷ [])) (getLink s (received end (after past) f .1))
+    received-sound = received-at end (after past) f o s (Sound (past ++ (receiving f ∷ []))) same (λ right stateGood below at _. at-link right stateGood below at .half)
 
   -- ---- any operations
 
@@ -263,58 +279,58 @@ module _ (side : Side) (σ : Station) (socket : Socket) where
   unfolding getLink
   local-sound past c ls i k = goes-on past c _ i refl k
 
-  operate-sound : (past : List Operation) (c : Operation) → OfOctets c → Sound past (getLink s (after past)) → Sound (past ++ (c ∷ [])) (getLink s (operate side (after past) c .1))
+  operate-sound : (past : List Operation) (c : Operation) → Offered end c → Sound past (getLink s (after past)) → Sound (past ++ (c ∷ [])) (getLink s (operate end (after past) c .1))
   operate-sound past (receiving f) o i = received-sound past f o i
-  operate-sound past (opening w id) o i = local-sound past _ _ i (open-after Kept kept-same side (after past .links) w s id (λ l. drops refl))
-  operate-sound past (sending w n) o i = local-sound past _ _ i (send-after Kept kept-same side (after past .links) w s n (λ l. stays (λ e. e) refl refl))
-  operate-sound past (closing w) o i = local-sound past _ _ i (close-after Kept kept-same side (after past .links) w s (λ l. drops refl))
+  operate-sound past (opening w id) o i = local-sound past _ _ i (open-after Kept kept-same (sideOf end) (after past .links) w s id (λ l. drops refl))
+  operate-sound past (sending w n) o i = local-sound past _ _ i (send-after Kept kept-same (sideOf end) (after past .links) w s n (λ l. stays (λ e. e) refl refl))
+  operate-sound past (closing w) o i = local-sound past _ _ i (close-after Kept kept-same (sideOf end) (after past .links) w s (λ l. drops refl))
 
-  runs : (a b : List Operation) → All OfOctets b → Sound a (getLink s (after a)) → Sound (a ++ b) (getLink s (after (a ++ b)))
+  runs : (a b : List Operation) → All (Offered end) b → Sound a (getLink s (after a)) → Sound (a ++ b) (getLink s (after (a ++ b)))
   runs a [] o i = rw (append-nil a) i
   runs a (c ∷ b) o i =
-      rw (← (append-snoc a c b)) (runs (a ++ (c ∷ [])) b (o .1) (rw (after-append (operate side) σ a (c ∷ [])) (operate-sound a c (o .0) i)))
+      rw (← (append-snoc a c b)) (runs (a ++ (c ∷ [])) b (o .1) (rw (after-append (operate end) σ a (c ∷ [])) (operate-sound a c (o .0) i)))
 
 -- ---- a delivery
 
-module _ (side : Side) (σ : Station) (operations : List Operation) (all : All OfOctets operations) (f : List ℕ) (o : Octets f) (values : List ℕ)
-    (delivered : IsDelivered (received side (afterAll side σ operations) f .0) values) where
+module _ (end : End) (σ : Station) (operations : List Operation) (all : All (Offered end) operations) (f : List ℕ) (o : Octets f) (values : List ℕ)
+    (delivered : IsDelivered (received end (afterAll end σ operations) f .0) values) where
   abbrev τ : Station
-  τ = afterAll side σ operations
+  τ = afterAll end σ operations
 
   abbrev n : ℕ
   n = delivered .long
 
-  delivers : (socket : Socket) → Sized τ → good side (τ .links) ≡ true → socketPlace socket < length (τ .links) → addressed (τ .links) (parsed f) ≡ At (socketPlace socket)
-      → received side τ f ≡ atSocket side τ (At (socketPlace socket)) f (parsed f) → getLink (socketPlace socket) σ .link .half ≡ H.Nothing → FromCut side σ socket operations f values
-  delivers socket sized stateGood below at q nothing =
+  delivers : (socket : Socket) → isRight end τ ≡ true → good (sideOf end) (τ .links) ≡ true → socketPlace socket < length (τ .links) → addressed end (τ .links) (parsed f) ≡ At (socketPlace socket)
+      → received end τ f ≡ placed τ (socketPlace socket) (stepOf end (getLink (socketPlace socket) τ) f (parsed f)) → getLink (socketPlace socket) σ .link .half ≡ H.Nothing → FromCut end σ socket operations f values
+  delivers socket right stateGood below at q nothing =
       let s = socketPlace socket in
-      let r = frameStep side (getLink s τ) (getLink s τ .link .state) f (parsed f) in
-      let u = at-link side σ socket operations f o (runs side σ socket [] operations all (rw nothing tt)) sized stateGood below at in
-      let end : getLink s (afterAll side σ (operations ++ (receiving f ∷ []))) ≡ r .1 =
-      ap (getLink s) (after-append (operate side) σ operations (receiving f ∷ []) ∙ ap (λ (p : Answer × Station). p .1) q) ∙ (get-put (length (τ .links)) τ refl sized s below (r .1) (stepped-keeps side τ f s o sized stateGood below .part)) in
-      let w = subst (IfDelivered (λ n t. (length (take n (r .1 .part)) ≡ n) × CameByCut side σ socket (getLink s τ .link .id) (record { number = t; octets = take n (r .1 .part) }) (operations ++ (receiving f ∷ []))))
+      let r = stepOf end (getLink s τ) f (parsed f) in
+      let u = at-link end σ socket operations f o (runs end σ socket [] operations all (rw nothing tt)) right stateGood below at in
+      let last : getLink s (afterAll end σ (operations ++ (receiving f ∷ []))) ≡ r .1 =
+      ap (getLink s) (after-append (operate end) σ operations (receiving f ∷ []) ∙ ap (λ (p : Answer × Station). p .1) q) ∙ (get-put (length (τ .links)) τ refl (right-sized end τ right) s below (r .1) (stepped-keeps end τ f s o right stateGood below .part)) in
+      let w = subst (IfDelivered (λ n t. (length (take n (r .1 .part)) ≡ n) × CameByCut end σ socket (getLink s τ .link .id) (record { number = t; octets = take n (r .1 .part) }) (operations ++ (receiving f ∷ []))))
       (sym (ap (λ (p : Answer × Station). p .0) q) ∙ delivered .is) (u .told) in
       record {
         message = record { number = delivered .number; octets = take n (r .1 .part) };
         valued = delivered .values-are ∙ ap (λ (k : ℕ). k ∷ delivered .number .0 ∷ []) (sym (w .0));
-        stands = rw (w .0, end);
+        stands = rw (w .0, last);
         came = w .1;
       }
 
-  delivery : Delivery side σ operations f values
-  delivery = of (does side τ f)
+  delivery : Delivery end σ operations f values
+  delivery = of (does end τ f)
     where
-      of : Promise.Does side τ f (parsed f) (received side τ f) → Delivery side σ operations f values
+      of : Promise.Does end τ f (parsed f) (received end τ f) → Delivery end σ operations f values
       of (refuses a q) = let e : A.Refused a ≡ A.Delivered n (delivered .number) = sym (ap (λ (p : Answer × Station). p .0) q) ∙ delivered .is in let z : _≡_ {A = ℕ} 0 1 = cc in absurd (omega arith)
-      of (steps j sized stateGood below at q) =
+      of (steps j right stateGood below at q) =
           let p : j ≡ socketPlace (socketAt j) = omega arith in
           record {
             socket = socketAt j;
-            numbered = is-socket j (length (σ .links)) (rw (after-count side σ operations) at below);
+            numbered = is-socket j (length (σ .links)) (rw (after-count end σ operations) at below);
             isFor = at ∙ ap At p;
-            only = delivers (socketAt j) sized stateGood (omega arith) (at ∙ ap At p) (q ∙ ap (λ (i : ℕ). atSocket side τ (At i) f (parsed f)) p);
+            only = delivers (socketAt j) right stateGood (omega arith) (at ∙ ap At p) (q ∙ ap (λ (i : ℕ). placed τ i (stepOf end (getLink i τ) f (parsed f))) p);
           }
 
 -- DEMAND 2, ONLY
 pub only : Only
-only side σ operations all f o values e = delivery side σ operations all f o values (delivered-told _ values e)
+only end σ operations all f o values e = delivery end σ operations all f o values (delivered-told _ values e)

@@ -1,311 +1,195 @@
--- Document 01's receiving table and those of the local calls (`specs/Tables.antt`).
-use Prim.Native.Nat.{ℕ, suc, _*_, _-_, _/_, _<_}
+-- Document 01's receiving table, with request [1]'s rows of it, and the tables of the local calls (`specs/Tables.antt`).
+use Prim.Native.Nat.{ℕ, _*_, _-_, _<_}
 use native.Mathlib.Omega.{arith}
-use mathlib.Core.Bool.{true, false, _&&_, _||_, cond, not, false≢true}
-use mathlib.Core.List.{List, [], _∷_, _++_}
+use mathlib.Core.Bool.{Bool, true, false, _&&_, _||_, cond, not, false≢true}
+use mathlib.Core.List.{List, [], _∷_}
 use mathlib.Core.Option.{some}
-use mathlib.Core.Path.{_≡_, refl, sym, ap, _∙_}
-use lib.Dec.{leb, ltb, eqb}
-use lib.ListN.{length, getD, set, take}
-use borrow.Author.Tests.{eq-eqb, ne-eqb, ltb-true, ltb-false}
+use mathlib.Core.Path.{_≡_, refl, sym, ap, _∙_, subst}
+use lib.Dec.{eqb}
+use lib.ListN.{length, getD, set}
 use Rattle.octets.specs.Numbers.{Octets}
-use Rattle.octets.specs.Parts.{part, write, same}
-use Rattle.octets.specs.Cut.{piece}
-use Rattle.octets.specs.Tables.{Row, refusal, reply, firstOf}
+use Rattle.octets.specs.Parts.{part, same}
+use Rattle.octets.specs.Tables.{Row, refusal, firstOf}
 use Rattle.octets.proofs.Tests.{cases, both-hold}
 use Rattle.octets.proofs.Tables.{by-table}
 use Rattle.octets.specs.Lengths.{isLength}
-use Rattle.fcs.specs.Fcs.{checkOctet}
 use Rattle.transactions.specs.Numbers.{isSocket, socketPlace}
-use Rattle.transactions.specs.Segments.{segN, segmentPlace, segmentLength}
-use Rattle.pb_adv.specs.Frame.{linkId, numberOf, kindOf, highBits, parsed}
-use Rattle.pb_adv.specs.Tables.{isKind, isControl, isSegment, lengthIn, malformed, unknownOpcode}
-use Rattle.pb_adv.specs.declared.SegmentHeader.{SegmentHeader}
-use Rattle.pb_adv.specs.declared.SegmentHeader.the-variants.{Start, Continuation}
+use Rattle.pb_adv.specs.Frame.{linkId, kindOf, highBits, parsed}
+use Rattle.pb_adv.specs.Tables.{isControl, malformed, unknownOpcode}
 use Rattle.pb_adv.specs.declared.Parsed.{Parsed}
+use Rattle.pb_adv.specs.declared.Parsed.the-variants as P
 use Rattle.pb_adv.proofs.Tables.{IsFrame, start, acknowledgement, continuation, opens, acks, closes, Reads, no-frame, unknown, frame, reads}
 use Rattle.transactions.specs.declared.Socket.{Socket}
-use Rattle.links.specs.Marks.{isMarked, withMark, allMarked}
-use Rattle.links.specs.Links.{peer, sends, isLast, inUse, findFrom, find, told}
-use Rattle.links.specs.Good.{goodAs, goodLink, good}
-use Rattle.links.specs.Segments.{OneLink, entered, offered, begun, onHalf, segmentStep}
-use Rattle.links.specs.Station.{Station, noLink, getLink, putLink, linkAt, isFound, isOpen, acknowledgementStep, ackStep, frameStep, atSocket, onFrame, received, localOpen, localSend, localClose}
-use Rattle.links.specs.Tables.{isFree, isIdInUse, linkFound, isOpening, notOpen, wrongDirection, notOutstanding, checkIn, hasLastNumber, isLastDelivered, messageOf, notBegun, isUnfit, otherOctets, isLastMissing, otherCheck, mismatches, wrongCheck, isComplete, isRepeat, receivingRows, ReceivingTable, leaves, ReceivingLeaves, openRows, sendRows, closeRows, LocalTables}
+use Rattle.links.specs.Links.{End, provisioner, device, sideOf, inUse, find, told}
+use Rattle.links.specs.Good.{goodLink, good}
+use Rattle.links.specs.Segments.{OneLink}
+use Rattle.links.specs.Station.{Station, noLink, getLink, putLink, linkAt, isFound, atSocket, openStep, onFrame, isRight, received, localOpen, localSend, localClose}
+use Rattle.links.specs.Tables.{wrongArgument, isFree, isIdInUse, isDeviceOpen, unknownLink, placeFor, linkFound, otherUuid, isBusy, isOpening, receivingRows, ReceivingTable, leaves, ReceivingLeaves, openRows, sendRows, closeRows, OpenTables, LocalTables}
 use Rattle.links.specs.declared.Side.{Side}
 use Rattle.links.specs.declared.Side.the-variants.{Provisioner, Device}
 use Rattle.links.specs.declared.LinkState.{LinkState}
 use Rattle.links.specs.declared.LinkState.the-variants as S
-use Rattle.links.specs.declared.LastDelivered.{LastDelivered}
-use Rattle.links.specs.declared.LastDelivered.the-variants as L
-use Rattle.links.specs.declared.HalfMessage.{HalfMessage}
-use Rattle.links.specs.declared.HalfReceived.{HalfReceived}
-use Rattle.links.specs.declared.HalfReceived.the-variants as H
 use Rattle.links.specs.declared.Link.{Link}
 use Rattle.links.specs.declared.Found.{Found}
 use Rattle.links.specs.declared.Found.the-variants.{At, Nowhere}
-use Rattle.links.specs.declared.Refusal.the-variants as R
-use Rattle.links.specs.declared.Answer.the-variants as A
-use Rattle.links.proofs.Marks.{none-marked}
-use Rattle.links.proofs.Lens.{put-get, found-at, good-get}
+use Rattle.links.proofs.Lens.{right-sized, right-one, put-get, found-at, good-get}
 use Rattle.links.proofs.Local.{open-calls, send-calls, close-calls, written-by}
 use Rattle.links.proofs.Bad.{blank-said}
-use Rattle.links.proofs.Leaves.{frame-leaves}
+use Rattle.links.proofs.Leaves.{frame-leaves, open-leaves}
 use Rattle.links.proofs.Keep.{good-as}
-
--- ---- the halves of the numbers
-
-lower-half : (n : ℕ) → eqb (n / 128) 0 ≡ not (ltb 127 n)
-lower-half n = cases (ltb 127 n)
-    (λ e. rw (e, ne-eqb (n / 128) 0 (omega (arith, ltb-true 127 n e))))
-    (λ e. rw (e, eq-eqb (n / 128) 0 (omega (arith, ltb-false 127 n e))))
-
-upper-half : (n : ℕ) → n < 256 → eqb (n / 128) 1 ≡ not (ltb n 128)
-upper-half n h = cases (ltb n 128)
-    (λ e. rw (e, ne-eqb (n / 128) 1 (omega (arith, ltb-true n 128 e))))
-    (λ e. rw (e, eq-eqb (n / 128) 1 (omega (arith, ltb-false n 128 e))))
-
--- ---- the tests of the definitions, in the rows' words
-
-use-free : (state : LinkState) → inUse state ≡ not (isFree state)
-use-free S.Free = refl
-use-free S.Opening = refl
-use-free S.Open = refl
-
-open-others : (state : LinkState) → isOpen state ≡ not (isFree state || isOpening state)
-open-others S.Free = refl
-open-others S.Opening = refl
-open-others S.Open = refl
-
-found-from : (k : ℕ) (ls : List Link) (id : ℕ) → isFound (findFrom k ls id) ≡ isIdInUse ls id
-unfolding findFrom
-found-from k [] id = refl
-found-from k (l ∷ ls) id =
-    rw (use-free (l .state)) (cases (not (isFree (l .state)) && eqb (l .id) id) (λ e. rw e) (λ e. rw e (found-from (suc k) ls id)))
-
-last-number : (last : LastDelivered) (f : List ℕ) → hasLastNumber last f ≡ isLast last (numberOf f)
-last-number L.Nothing f = refl
-last-number (L.Number t) f = refl
-
--- ---- the rows by parts
-
--- of a segment at its link, by what is half-received
-abbrev segmentRows : OneLink → HalfReceived → List ℕ → List Row
-segmentRows x half f =
-    let h = messageOf half f in
-    reply "acknowledge again" [] (isLastDelivered (x .link .last) f)
-    ∷ refusal 6 (notBegun half f)
-    ∷ refusal 7 (mismatches x half h f)
-    ∷ refusal 8 (wrongCheck x h f)
-    ∷ reply "delivered" (h .length ∷ h .number .0 ∷ []) (isComplete h f)
-    ∷ reply "repeat" [] (isRepeat h f)
-    ∷ reply "kept" [] (isSegment f)
-    ∷ []
-
--- of a frame of another kind
-abbrev otherRows : LinkState → List ℕ → List Row
-otherRows state f =
-    reply "acknowledged" [] (isKind 1 f)
-    ∷ reply "opened" [] (isOpening state && isControl 1 f)
-    ∷ reply "already" [] (isControl 1 f)
-    ∷ reply "closed" (getD f 6 0 ∷ []) (isControl 2 f)
-    ∷ []
-
--- of a frame at its link, by the link's state
-abbrev linkRows : Side → OneLink → LinkState → List ℕ → List Row
-linkRows side x state f =
-    refusal 4 (notOpen state f)
-    ∷ refusal 5 (wrongDirection side f)
-    ∷ refusal 12 (notOutstanding (x .link) f)
-    ∷ (segmentRows x (x .link .half) f ++ otherRows state f)
-
--- ---- a segment at its link
-
--- the rows from 8 on of segment k
-abbrev enteredRows : OneLink → HalfMessage → ℕ → List ℕ → List Row → List Row
-enteredRows x h k d rest =
-    refusal 8 (isLastMissing h k && otherCheck x h k d)
-    ∷ reply "delivered" (h .length ∷ h .number .0 ∷ []) (isLastMissing h k)
-    ∷ reply "repeat" [] (isMarked (h .marks) k)
-    ∷ reply "kept" [] true
-    ∷ rest
-
-module _ (x : OneLink) (h : HalfMessage) (k : ℕ) (d : List ℕ) (rest : List Row) where
-  entered-row : isMarked (h .marks) k ≡ false → firstOf (enteredRows x h k d rest) ≡ some (told (entered x h k d .0))
-  unfolding entered
-  entered-row missing =
-      rw missing (cases (allMarked (segN (h .length)) (withMark (h .marks) k))
-      (λ e. rw e (cases (eqb (checkOctet (take (h .length) (write (x .part) (segmentPlace k) d))) (h .check)) (λ c. rw c) (λ c. rw c)))
-      (λ e. rw e))
-
-  offered-row : firstOf (refusal 7 (isUnfit h k d || otherOctets x h k d) ∷ enteredRows x h k d rest) ≡ some (told (offered x h k d .0))
-  unfolding offered
-  offered-row =
-      cases (leb k (segN (h .length)) && eqb (length d) (segmentLength (h .length) k))
-      (λ e. rw e (cases (isMarked (h .marks) k)
-      (λ u. rw u (cases (same (piece segmentPlace (h .length) (x .part) k) d) (λ v. rw v) (λ v. rw v)))
-      (λ u. let w = entered-row u in rw u (rw u at w))))
-      (λ e. rw e)
-
-module _ (x : OneLink) (f : List ℕ) (rest : List Row) (awaited : isLast (x .link .last) (numberOf f) ≡ false) where
-  start-rows : kindOf f ≡ 0 → (half : HalfReceived)
-      → firstOf (segmentRows x half f ++ rest) ≡ some (told (onHalf x half (numberOf f) (Start (lengthIn f) (checkIn f)) (part f 9 (length f - 9)) .0))
-  start-rows k H.Nothing = rw (last-number (x .link .last) f, awaited, k) (entered-row x (begun (numberOf f) (lengthIn f) (checkIn f)) 0 (part f 9 (length f - 9)) rest (none-marked 0))
-  start-rows k (H.Message h) =
-      cases (eqb (h .number .0) (numberOf f .0))
-      (λ e. rw (last-number (x .link .last) f, awaited, e, k) (cases (eqb (h .length) (lengthIn f) && eqb (h .check) (checkIn f))
-      (λ u. rw u (offered-row x h 0 (part f 9 (length f - 9)) rest)) (λ u. rw u)))
-      (λ e. rw (last-number (x .link .last) f, awaited, e, k) (entered-row x (begun (numberOf f) (lengthIn f) (checkIn f)) 0 (part f 9 (length f - 9)) rest (none-marked 0)))
-
-  continuation-rows : kindOf f ≡ 2 → (half : HalfReceived)
-      → firstOf (segmentRows x half f ++ rest) ≡ some (told (onHalf x half (numberOf f) (Continuation (highBits f)) (part f 6 (length f - 6)) .0))
-  continuation-rows k H.Nothing = rw (last-number (x .link .last) f, awaited, k)
-  continuation-rows k (H.Message h) =
-      cases (eqb (h .number .0) (numberOf f .0))
-      (λ e. rw (last-number (x .link .last) f, awaited, e, k) (offered-row x h (highBits f) (part f 6 (length f - 6)) rest)) (λ e. rw (last-number (x .link .last) f, awaited, e, k))
-
--- ---- a frame at its link
-
-module _ (f : List ℕ) (o : Octets f) where
-  segment-direction : isSegment f ≡ true → isKind 1 f ≡ false → isKind 3 f ≡ false → (side : Side) → wrongDirection side f ≡ not (sends (peer side) (numberOf f))
-  segment-direction s a c Provisioner =
-      rw (s, a, c, upper-half (numberOf f .0) (o 4)) (cases (ltb (numberOf f .0) 128) (λ e. rw e) (λ e. rw e))
-  segment-direction s a c Device =
-      rw (s, a, c, lower-half (numberOf f .0)) (cases (ltb 127 (numberOf f .0)) (λ e. rw e) (λ e. rw e))
-
-  acknowledgement-direction : kindOf f ≡ 1 → (side : Side) → wrongDirection side f ≡ not (sends side (numberOf f))
-  acknowledgement-direction k Provisioner =
-      rw (k, lower-half (numberOf f .0)) (cases (ltb 127 (numberOf f .0)) (λ e. rw e) (λ e. rw e))
-  acknowledgement-direction k Device =
-      rw (k, upper-half (numberOf f .0) (o 4)) (cases (ltb (numberOf f .0) 128) (λ e. rw e) (λ e. rw e))
-
-  module _ (side : Side) (x : OneLink) where
-    -- a segment on an open link
-    open-segment : isSegment f ≡ true → isKind 1 f ≡ false → isKind 3 f ≡ false → (header : SegmentHeader) (d : List ℕ)
-        → (isLast (x .link .last) (numberOf f) ≡ false
-        → firstOf (segmentRows x (x .link .half) f ++ otherRows S.Open f) ≡ some (told (onHalf x (x .link .half) (numberOf f) header d .0)))
-        → firstOf (linkRows side x S.Open f) ≡ some (told (cond (sends (peer side) (numberOf f)) (segmentStep x (numberOf f) header d) (A.Refused R.WrongDirection, x) .0))
-    unfolding segmentStep
-    open-segment s a c header d rows =
-        rw (segment-direction s a c side) (cases (sends (peer side) (numberOf f))
-        (λ q. rw (q, a) (cases (isLast (x .link .last) (numberOf f)) (λ l. rw (s, last-number (x .link .last) f, l)) (λ l. let w = rows l in rw l (rw a at w))))
-        (λ q. rw q))
-
-    open-acknowledgement : kindOf f ≡ 1
-        → firstOf (linkRows side x S.Open f) ≡ some (told (cond (sends side (numberOf f)) (acknowledgementStep x (numberOf f)) (A.Refused R.WrongDirection, x) .0))
-    unfolding acknowledgementStep
-    open-acknowledgement k =
-        rw (acknowledgement-direction k side) (cases (sends side (numberOf f))
-        (λ q. rw (q, k) (cases (x .link .outstanding && eqb (x .link .next .0) (numberOf f .0)) (λ v. rw v) (λ v. rw v)))
-        (λ q. rw q))
-
-    open-ack : kindOf f ≡ 3 → highBits f ≡ 1 → firstOf (linkRows side x S.Open f) ≡ some (told (ackStep side x .0))
-    open-ack k h = of side
-      where
-        of : (side : Side) → firstOf (linkRows side x S.Open f) ≡ some (told (ackStep side x .0))
-        of Provisioner = rw (k, h)
-        of Device = rw (k, h)
-
-    -- no other end has a link that is opening
-    opening-ack : goodAs side S.Opening (x .link) ≡ true → kindOf f ≡ 3 → highBits f ≡ 1 → firstOf (linkRows side x S.Opening f) ≡ some (told A.Opened)
-    opening-ack good k h = of side good
-      where
-        of : (side : Side) → goodAs side S.Opening (x .link) ≡ true → firstOf (linkRows side x S.Opening f) ≡ some (told A.Opened)
-        of Provisioner g = rw (k, h)
-        of Device g = absurd (false≢true g)
-
-    open-open : kindOf f ≡ 3 → highBits f ≡ 0 → firstOf (linkRows side x S.Open f) ≡ some (told (A.Refused R.WrongDirection))
-    open-open k h = of side
-      where
-        of : (side : Side) → firstOf (linkRows side x S.Open f) ≡ some (told (A.Refused R.WrongDirection))
-        of Provisioner = rw (k, h)
-        of Device = rw (k, h)
-
-    close-any : (state : LinkState) → kindOf f ≡ 3 → highBits f ≡ 2 → firstOf (linkRows side x state f) ≡ some (told (A.Closed (getD f 6 0)))
-    close-any state k h = of side state
-      where
-        of : (side : Side) (state : LinkState) → firstOf (linkRows side x state f) ≡ some (told (A.Closed (getD f 6 0)))
-        of Provisioner S.Free = rw (k, h)
-        of Provisioner S.Opening = rw (k, h)
-        of Provisioner S.Open = rw (k, h)
-        of Device S.Free = rw (k, h)
-        of Device S.Opening = rw (k, h)
-        of Device S.Open = rw (k, h)
-
-module _ (side : Side) (x : OneLink) (linkGood : goodLink side (x .link) ≡ true) (f : List ℕ) (o : Octets f) where
-  at-state : (state : LinkState) → x .link .state ≡ state → inUse state ≡ true → (p : Parsed) → IsFrame f p
-      → firstOf (linkRows side x state f) ≡ some (told (frameStep side x state f p .0))
-  unfolding frameStep
-  at-state S.Free e u p r = absurd (false≢true u)
-  at-state S.Opening e u p (start k s) = rw k
-  at-state S.Opening e u p (acknowledgement k) = rw k
-  at-state S.Opening e u p (continuation k h) = rw k
-  at-state S.Opening e u p (opens k h) = rw (k, h)
-  at-state S.Opening e u p (acks k h) = opening-ack f o side x (good-as side (x .link) e linkGood) k h
-  at-state S.Opening e u p (closes k h) = close-any f o side x S.Opening k h
-  at-state S.Open e u p (start k s) = open-segment f o side x (rw k) (rw k) (rw k) _ _ (λ l. start-rows x f (otherRows S.Open f) l k (x .link .half))
-  at-state S.Open e u p (acknowledgement k) = open-acknowledgement f o side x k
-  at-state S.Open e u p (continuation k h) = open-segment f o side x (rw k) (rw k) (rw k) _ _ (λ l. continuation-rows x f (otherRows S.Open f) l k (x .link .half))
-  at-state S.Open e u p (opens k h) = open-open f o side x k h
-  at-state S.Open e u p (acks k h) = open-ack f o side x k h
-  at-state S.Open e u p (closes k h) = close-any f o side x S.Open k h
+use Rattle.links.proofs.Rows.{use-free, open-others, found-from, linkRows, control-open, at-state}
 
 -- ---- the call
 
--- a frame goes to the record of its Link ID
-pub goes : (side : Side) (σ : Station) (f : List ℕ) (p : Parsed) → IsFrame f p → onFrame side σ f p ≡ atSocket side σ (find (σ .links) (linkId f)) f p
-goes side σ f p (start k s) = refl
-goes side σ f p (acknowledgement k) = refl
-goes side σ f p (continuation k h) = refl
-goes side σ f p (opens k h) = refl
-goes side σ f p (acks k h) = refl
-goes side σ f p (closes k h) = refl
+-- a frame goes to the record of its Link ID, but for the Opens that come to a device
+pub goes : (end : End) (σ : Station) (f : List ℕ) (p : Parsed) → IsFrame f p → isDeviceOpen end f ≡ false
+    → onFrame end σ f p ≡ atSocket (sideOf end) σ (find (σ .links) (linkId f)) f p
+goes end σ f p (start k s) d = refl
+goes end σ f p (acknowledgement k) d = refl
+goes end σ f p (continuation k h) d = refl
+goes provisioner σ f p (opens k h) d = refl
+goes (device own) σ f p (opens k h) d = absurd (false≢true (sym d ∙ control-open f k h))
+goes end σ f p (acks k h) d = refl
+goes end σ f p (closes k h) d = refl
 
-module _ (side : Side) (σ : Station) (f : List ℕ) (o : Octets f) where
-  module _ (stateGood : good side (σ .links) ≡ true) where
-    -- the rows from 3 on, by the record that was found
-    abbrev foundRows : Found → List Row
-    foundRows found = refusal 3 (not (isFound found)) ∷ linkRows side (linkFound σ found) (linkFound σ found .link .state) f
+-- an Open that comes to a device is judged by its one record
+data AtDevice (own : List ℕ) (f : List ℕ) : Parsed → Type 0 where
+  anOpen : kindOf f ≡ 3 → highBits f ≡ 0 → AtDevice own f (P.Open (linkId f) 6)
+  another : {p : Parsed} → isControl 0 f ≡ false → AtDevice own f p
 
-    at-found : (found : Found) → find (σ .links) (linkId f) ≡ found → (p : Parsed) → IsFrame f p → firstOf (foundRows found) ≡ some (told (atSocket side σ found f p .0))
-    unfolding getLink
-    at-found Nowhere e p r = refl
-    at-found (At s) e p r =
-        let w = found-at (σ .links) (linkId f) s e in
-        at-state side (getLink s σ) (good-get side σ s stateGood (w .0)) f o (getLink s σ .link .state) refl
-        (both-hold {a = inUse (getD (σ .links) s noLink .state)} {b = eqb (getD (σ .links) s noLink .id) (linkId f)} (w .1) .0) p r
+at-device : (own f : List ℕ) (p : Parsed) → IsFrame f p → AtDevice own f p
+at-device own f p (start k s) = another (rw k)
+at-device own f p (acknowledgement k) = another (rw k)
+at-device own f p (continuation k h) = another (rw k)
+at-device own f p (opens k h) = anOpen k h
+at-device own f p (acks k h) = another (rw (k, h))
+at-device own f p (closes k h) = another (rw (k, h))
 
-    by-reads : (p : Parsed) → Reads f p
-        → firstOf (refusal 1 (malformed f) ∷ refusal 2 (unknownOpcode f) ∷ foundRows (find (σ .links) (linkId f))) ≡ some (told (onFrame side σ f p .0))
-    by-reads p (no-frame m) = rw m
-    by-reads p (unknown m n) = rw (m, n)
-    by-reads p (frame m n r) = rw (m, n, goes side σ f p r) (at-found (find (σ .links) (linkId f)) refl p r)
+-- the rows from 15 on
+abbrev frameRows : End → Station → OneLink → List ℕ → List Row
+frameRows end σ x f =
+    refusal 15 (otherUuid end f) ∷ refusal 16 (isBusy end (x .link) f) ∷ refusal 3 (unknownLink end σ f) ∷ linkRows (sideOf end) x (x .link .state) f
 
-  first-row : firstOf (receivingRows side σ f) ≡ some (told (received side σ f .0))
+-- 15 and 16 are for an Open
+skips : (own : List ℕ) (σ : Station) (x : OneLink) (f : List ℕ) → isControl 0 f ≡ false
+    → firstOf (frameRows (device own) σ x f) ≡ firstOf (refusal 3 (not (isIdInUse (σ .links) (linkId f))) ∷ linkRows Device x (x .link .state) f)
+skips own σ x f e =
+    by (isControl 0 f) e (not (same (part f 6 16) own)) (not (isFree (x .link .state)) && not (eqb (x .link .id) (linkId f))) (not (isIdInUse (σ .links) (linkId f)))
+    (linkRows Device x (x .link .state) f)
+  where
+    by : (b : Bool) → b ≡ false → (u v w : Bool) (rest : List Row)
+        → firstOf (refusal 15 (b && u) ∷ refusal 16 (b && v) ∷ refusal 3 (not b && w) ∷ rest) ≡ firstOf (refusal 3 w ∷ rest)
+    by b e u v w rest = rw e
+
+-- at a device, an Open
+open-rows : (own : List ℕ) (σ : Station) (x : OneLink) (f : List ℕ) → kindOf f ≡ 3 → highBits f ≡ 0 → goodLink Device (x .link) ≡ true
+    → firstOf (frameRows (device own) σ x f) ≡ some (told (openStep own x f (linkId f) 6 .0))
+unfolding openStep
+open-rows own σ x f k h linkGood = of (x .link .state) refl
+  where
+    of : (state : LinkState) → x .link .state ≡ state → firstOf (frameRows (device own) σ x f) ≡ some (told (openStep own x f (linkId f) 6 .0))
+    of S.Free e = cases (same (part f 6 16) own) (λ u. rw (k, h, u, e)) (λ u. rw (k, h, u))
+    of S.Opening e = absurd (false≢true (good-as Device (x .link) e linkGood))
+    of S.Open e = cases (same (part f 6 16) own) (λ u. cases (eqb (x .link .id) (linkId f)) (λ q. rw (k, h, u, e, q)) (λ q. rw (k, h, u, e, q))) (λ u. rw (k, h, u))
+
+wrong-right : (end : End) (σ : Station) → wrongArgument end σ ≡ not (isRight end σ)
+wrong-right provisioner σ = refl
+wrong-right (device own) σ =
+    cases (eqb (length (σ .area)) (1469 * length (σ .links)))
+    (λ a. rw a (cases (eqb (length (σ .links)) 1) (λ b. rw b) (λ b. rw b)))
+    (λ a. rw a)
+
+module _ (end : End) (σ : Station) (f : List ℕ) (o : Octets f) (stateGood : good (sideOf end) (σ .links) ≡ true) where
+  -- by the record that its Link ID finds
+  at-found : (found : Found) → find (σ .links) (linkId f) ≡ found → isDeviceOpen end f ≡ false → (p : Parsed) → IsFrame f p
+      → firstOf (refusal 3 (not (isFound found)) ∷ linkRows (sideOf end) (linkFound σ found) (linkFound σ found .link .state) f) ≡ some (told (atSocket (sideOf end) σ found f p .0))
+  unfolding getLink
+  at-found Nowhere e d p r = refl
+  at-found (At s) e d p r =
+      let w = found-at (σ .links) (linkId f) s e in
+      at-state end (getLink s σ) (good-get (sideOf end) σ s stateGood (w .0)) f o d (getLink s σ .link .state) refl
+      (both-hold {a = inUse (getD (σ .links) s noLink .state)} {b = eqb (getD (σ .links) s noLink .id) (linkId f)} (w .1) .0) p r
+
+by-frame : (end : End) (σ : Station) (f : List ℕ) → Octets f → isRight end σ ≡ true → good (sideOf end) (σ .links) ≡ true → (p : Parsed) → IsFrame f p
+    → firstOf (frameRows end σ (linkFound σ (placeFor end (σ .links) f)) f) ≡ some (told (onFrame end σ f p .0))
+by-frame provisioner σ f o right g p r =
+    rw (goes provisioner σ f p r refl, ← (found-from 0 (σ .links) (linkId f))) (at-found provisioner σ f o g (find (σ .links) (linkId f)) refl refl p r)
+by-frame (device own) σ f o right g p r = of p r (at-device own f p r)
+  where
+    -- by the record that it is judged by
+    judged : (p : Parsed) {b : Bool} → isControl 0 f ≡ b
+        → firstOf (frameRows (device own) σ (linkFound σ (cond b (At 0) (find (σ .links) (linkId f)))) f) ≡ some (told (onFrame (device own) σ f p .0))
+        → firstOf (frameRows (device own) σ (linkFound σ (placeFor (device own) (σ .links) f)) f) ≡ some (told (onFrame (device own) σ f p .0))
+    judged p d h =
+        subst (λ (b : Bool). firstOf (frameRows (device own) σ (linkFound σ (cond b (At 0) (find (σ .links) (linkId f)))) f) ≡ some (told (onFrame (device own) σ f p .0))) (sym d) h
+
+    of : (p : Parsed) → IsFrame f p → AtDevice own f p
+        → firstOf (frameRows (device own) σ (linkFound σ (placeFor (device own) (σ .links) f)) f) ≡ some (told (onFrame (device own) σ f p .0))
+    of p r (anOpen k h) =
+        judged p (control-open f k h) (open-rows own σ (getLink 0 σ) f k h (good-get Device σ 0 g (omega (arith, right-one own σ right))))
+    of p r (another d) =
+        judged p d (skips own σ (linkFound σ (find (σ .links) (linkId f))) f d
+        ∙ rw (goes (device own) σ f p r d, ← (found-from 0 (σ .links) (linkId f))) (at-found (device own) σ f o g (find (σ .links) (linkId f)) refl d p r))
+
+module _ (end : End) (σ : Station) (f : List ℕ) (o : Octets f) where
+  by-reads : isRight end σ ≡ true → good (sideOf end) (σ .links) ≡ true → (p : Parsed) → Reads f p
+      → firstOf (refusal 1 (malformed f) ∷ refusal 2 (unknownOpcode f) ∷ frameRows end σ (linkFound σ (placeFor end (σ .links) f)) f) ≡ some (told (onFrame end σ f p .0))
+  by-reads right g p (no-frame m) = rw m
+  by-reads right g p (unknown m n) = rw (m, n)
+  by-reads right g p (frame m n r) = rw (m, n) (by-frame end σ f o right g p r)
+
+  first-row : firstOf (receivingRows end σ f) ≡ some (told (received end σ f .0))
   unfolding received
   first-row =
-      cases (eqb (length (σ .area)) (1469 * length (σ .links)))
-      (λ e. rw e (cases (good side (σ .links)) (λ g. rw (g, ← (found-from 0 (σ .links) (linkId f))) (by-reads g (parsed f) (reads f))) (λ g. rw g)))
-      (λ e. rw e)
+      rw (wrong-right end σ) (cases (isRight end σ)
+      (λ e. rw e (cases (good (sideOf end) (σ .links)) (λ g. rw g (by-reads e g (parsed f) (reads f))) (λ g. rw g)))
+      (λ e. rw e))
 
 -- THE RECEIVING TABLE
 pub receiving-table : ReceivingTable received
-receiving-table side σ f o = by-table (told (received side σ f .0)) (receivingRows side σ f) refl (first-row side σ f o)
+receiving-table end σ f o = by-table (told (received end σ f .0)) (receivingRows end σ f) refl (first-row end σ f o)
 
 -- ---- what it leaves
 
-module _ (side : Side) (σ : Station) (f : List ℕ) (sized : length (σ .area) ≡ 1469 * length (σ .links)) (s : ℕ) (at : find (σ .links) (linkId f) ≡ At s) where
-  unchanged : σ ≡ putLink s (getLink s σ) σ
-  unchanged = sym (put-get s σ (omega (arith, found-at (σ .links) (linkId f) s at .0)))
+module _ (end : End) (σ : Station) (f : List ℕ) (right : isRight end σ ≡ true) (stateGood : good (sideOf end) (σ .links) ≡ true) where
+  unchanged : (s : ℕ) → s < length (σ .links) → σ ≡ putLink s (getLink s σ) σ
+  unchanged s below = sym (put-get s σ (omega (arith, right-sized end σ right)))
 
-  leaves-by : (p : Parsed) → Reads f p → onFrame side σ f p .1 ≡ putLink s (leaves side (getLink s σ) f (onFrame side σ f p .0)) σ
-  leaves-by p (no-frame m) = unchanged
-  leaves-by p (unknown m n) = unchanged
-  leaves-by p (frame m n r) = rw (goes side σ f p r, at) (ap (λ (y : OneLink). putLink s y σ) (frame-leaves side (getLink s σ) f (getLink s σ .link .state) p r))
+  -- of the record that its Link ID finds
+  found-leaves : (s : ℕ) → find (σ .links) (linkId f) ≡ At s → isDeviceOpen end f ≡ false → (p : Parsed) → IsFrame f p
+      → onFrame end σ f p .1 ≡ putLink s (leaves (sideOf end) (getLink s σ) f (onFrame end σ f p .0)) σ
+  found-leaves s at d p r =
+      rw (goes end σ f p r d, at) (ap (λ (y : OneLink). putLink s y σ)
+      (frame-leaves (sideOf end) (getLink s σ) f (getLink s σ .link .state) (good-get (sideOf end) σ s stateGood (found-at (σ .links) (linkId f) s at .0)) p r))
+
+frame-left : (end : End) (σ : Station) (f : List ℕ) → isRight end σ ≡ true → good (sideOf end) (σ .links) ≡ true → (s : ℕ) → placeFor end (σ .links) f ≡ At s
+    → (p : Parsed) → IsFrame f p → onFrame end σ f p .1 ≡ putLink s (leaves (sideOf end) (getLink s σ) f (onFrame end σ f p .0)) σ
+frame-left provisioner σ f right g s at p r = found-leaves provisioner σ f right g s at refl p r
+frame-left (device own) σ f right g s at p r = of p r (at-device own f p r)
+  where
+    of : (p : Parsed) → IsFrame f p → AtDevice own f p
+        → onFrame (device own) σ f p .1 ≡ putLink s (leaves Device (getLink s σ) f (onFrame (device own) σ f p .0)) σ
+    of p r (anOpen k h) =
+        let q : At 0 ≡ At s = rw (control-open f k h) at at in
+        let z : 0 ≡ s = cc in
+        rw (← z) (ap (λ (y : OneLink). putLink 0 y σ) (open-leaves own (getLink 0 σ) f))
+    of p r (another d) = found-leaves (device own) σ f right g s (rw d at at) d p r
+
+placed : (end : End) (σ : Station) (f : List ℕ) → isRight end σ ≡ true → (s : ℕ) → placeFor end (σ .links) f ≡ At s → s < length (σ .links)
+placed provisioner σ f right s at = found-at (σ .links) (linkId f) s at .0
+placed (device own) σ f right s at =
+    cases (isControl 0 f)
+    (λ e. let q : At 0 ≡ At s = rw e at at in let z : 0 ≡ s = cc in omega (arith, right-one own σ right, z))
+    (λ e. found-at (σ .links) (linkId f) s (rw e at at) .0)
 
 pub receiving-leaves : ReceivingLeaves
 unfolding received
-receiving-leaves side σ f sized stateGood s at =
-    rw (eq-eqb (length (σ .area)) (1469 * length (σ .links)) sized, stateGood) (leaves-by side σ f sized s at (parsed f) (reads f))
+receiving-leaves end σ f right stateGood s at = rw (right, stateGood) (of (parsed f) (reads f))
+  where
+    of : (p : Parsed) → Reads f p → onFrame end σ f p .1 ≡ putLink s (leaves (sideOf end) (getLink s σ) f (onFrame end σ f p .0)) σ
+    of p (no-frame m) = unchanged end σ f right stateGood s (placed end σ f right s at)
+    of p (unknown m n) = unchanged end σ f right stateGood s (placed end σ f right s at)
+    of p (frame m n r) = frame-left end σ f right stateGood s at p r
 
 -- ---- the local calls
 
@@ -338,12 +222,16 @@ module _ (side : Side) (ls : List Link) (s : Socket) where
       (λ r. rw r (cases (good side ls) (λ g. rw (g, use-free (linkAt ls s .state)) (cases (isFree (linkAt ls s .state)) (λ e. rw e) (λ e. rw e))) (λ g. rw g)))
       (λ r. rw r)
 
+pub open-tables : (ls : List Link) (s : Socket) → OpenTables ls s
+open-tables ls s = record {
+  opening = λ id. by-table (told (localOpen Provisioner ls s id .0)) (openRows Provisioner ls s id) refl (open-first Provisioner ls s id);
+  opened = λ id h. written-by Provisioner ls s (open-calls Provisioner ls s id) "done" [] h ∙ ap (set ls (socketPlace s)) (blank-said Provisioner S.Opening id);
+}
+
 pub local-tables : (side : Side) (ls : List Link) (s : Socket) → LocalTables side ls s
 local-tables side ls s = record {
-  opening = λ id. by-table (told (localOpen side ls s id .0)) (openRows side ls s id) refl (open-first side ls s id);
   sending = λ n. by-table (told (localSend side ls s n .0)) (sendRows side ls s n) refl (send-first side ls s n);
   closing = by-table (told (localClose side ls s .0)) (closeRows side ls s) refl (close-first side ls s);
-  opened = λ id h. written-by side ls s (open-calls side ls s id) "done" [] h ∙ ap (set ls (socketPlace s)) (blank-said side S.Opening id);
   sent = λ n. written-by side ls s (send-calls side ls s n) "sending";
   closed = λ h. written-by side ls s (close-calls side ls s) "done" [] h ∙ ap (set ls (socketPlace s)) (blank-said side S.Free 0);
 }

@@ -34,7 +34,7 @@ abbrev pub sendsFrom : Side → ℕ
 sendsFrom Provisioner = 0x00
 sendsFrom Device = 0x80
 
--- "Blank is: [..] sending from 0x00, nothing outstanding, last delivered or half-received", in a state and with a Link ID
+-- "Blank is: [..] sending from 0x00, nothing outstanding, last delivered or half-received", at a device's end from 0x80; in a state and with a Link ID
 abbrev pub blankRecord : Side → LinkState → ℕ → Link
 blankRecord side state id = record { state = state; id = id; next = record { 0 = sendsFrom side }; outstanding = false; last = L.Nothing; half = H.Nothing }
 

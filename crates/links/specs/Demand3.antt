@@ -1,8 +1,9 @@
--- DEMAND 3, as one claim about a list of receiving calls, over any number of links and either side. The proof is `proofs/Demand3.antt`. The claim is
--- stated of any receiver; document 01's rules, `received`, meet it.
+-- DEMAND 3, as one claim about a list of receiving calls, over any number of links at the provisioner's end and the one of a device's. The proof is
+-- `proofs/Demand3.antt`. The claim is stated of any receiver; document 01's rules, `received`, meet it.
 use Prim.Native.Nat.{ℕ, _≤_}
 use mathlib.Core.Bool.{true, cond}
 use mathlib.Core.List.{List, [], _∷_, _++_, map, List·Memᴰ}
+use mathlib.Core.Logic.{_≢_}
 use mathlib.Core.Path.{_≡_}
 use lib.Dec.{eqb}
 use lib.ListN.{length, take}
@@ -12,14 +13,15 @@ use Rattle.transactions.specs.declared.TransactionNumber.{TransactionNumber}
 use Rattle.transactions.specs.declared.Socket.{Socket}
 use Rattle.pb_adv.specs.Frame.{kindOf}
 use Rattle.pb_adv_writing.specs.Writing.{messageFrames}
-use Rattle.links.specs.Links.{peer, sends, Awaits, told}
+use Rattle.links.specs.Links.{peer, End, sideOf, sends, Awaits, told}
 use Rattle.links.specs.Good.{good}
-use Rattle.links.specs.Station.{Station, ofSocket, linkAt}
-use Rattle.links.specs.Promises.{Sized}
+use Rattle.links.specs.Bad.{InHalf}
+use Rattle.links.specs.Station.{Station, ofSocket, isRight, linkAt}
 use Rattle.links.specs.Interleaving.{withKey, inTurn, All, stateAfter, answers, keyOf}
 use Rattle.links.specs.Operations.{ReceivingStep, Receiver}
 use Rattle.links.specs.declared.Side.{Side}
 use Rattle.links.specs.declared.LinkState.the-variants as S
+use Rattle.links.specs.declared.LastDelivered.the-variants as L
 use Rattle.links.specs.declared.HalfReceived.the-variants as H
 use Rattle.links.specs.declared.Link.{Link}
 use Rattle.links.specs.declared.Answer.{Answer}
@@ -55,7 +57,17 @@ AllAmong fs gs = (f : List ℕ) → List·Memᴰ f fs → List·Memᴰ f gs
 
 -- ---- the start
 
--- "each with one message of 1 to 1,469 octets under a device-side number that the link didn't deliver last", open and nothing half-received
+-- the same in numbers: an open link with "no half-received message", and "one message of 1 to 1,469 octets under a device-side number that the link
+-- didn't deliver last"; at a device's end the number is the provisioner's
+pub record ReadyFor (side : Side) (l : Link) (m : Message) : Type 0 where
+  pub isOpen : l .state ≡ S.Open
+  pub nothing : l .half ≡ H.Nothing
+  pub half : InHalf (peer side) (m .number)
+  pub notLast : l .last ≢ L.Number (m .number)
+  pub some-octets : 1 ≤ length (m .octets)
+  pub few-octets : length (m .octets) ≤ 1469
+
+-- and as the rules test it
 pub record Ready (side : Side) (l : Link) (m : Message) : Type 0 where
   pub isOpen : l .state ≡ S.Open
   pub nothing : l .half ≡ H.Nothing
@@ -73,11 +85,12 @@ module _ (σ : Station) (message : Socket → Message) where
   abbrev pub linkOf : Socket → Link
   linkOf s = linkAt (σ .links) s
 
-  -- "Eight open links with different Link IDs, in a state that isn't bad, whatever the lent area holds, no half-received message on any"
-  pub record Premises (side : Side) : Type 0 where
-    pub room : Sized σ
-    pub notBad : good side (σ .links) ≡ true
-    pub ready : (s : Socket) → isSocket s (length (σ .links)) ≡ true → Ready side (linkOf s) (message s)
+  -- "Eight open links with different Link IDs, in a state that isn't bad, whatever the lent area holds, no half-received message on any"; "with one link"
+  -- on a device's end, where `isRight` asks for one record
+  pub record Premises (end : End) : Type 0 where
+    pub right : isRight end σ ≡ true
+    pub notBad : good (sideOf end) (σ .links) ≡ true
+    pub ready : (s : Socket) → isSocket s (length (σ .links)) ≡ true → Ready (sideOf end) (linkOf s) (message s)
 
   -- "one right segment of one of these messages"
   pub record Right (c : Call) : Type 0 where
@@ -129,5 +142,5 @@ module _ (σ : Station) (message : Socket → Message) where
 -- DEMAND 3
 abbrev pub Demand3 : Receiver → Type 0
 Demand3 receive =
-    (side : Side) (σ : Station) (message : Socket → Message) → Premises σ message side → (cs : List Call) → All (Right σ message) cs
-    → Claim σ message (receive side) cs
+    (end : End) (σ : Station) (message : Socket → Message) → Premises σ message end → (cs : List Call) → All (Right σ message) cs
+    → Claim σ message (receive end) cs

@@ -46,7 +46,7 @@ abbrev pub isEmpty : HalfReceived → Bool
 isEmpty H.Nothing = true
 isEmpty (H.Message h) = false
 
--- "sending from 0x00, nothing outstanding, last delivered or half-received"
+-- "sending from 0x00, nothing outstanding, last delivered or half-received"; from 0x80 at a device's end
 abbrev pub atRest : Side → Link → Bool
 atRest side l = eqb (l .next .0) (firstNumber side .0) && (not (l .outstanding) && (isNothing (l .last) && isEmpty (l .half)))
 

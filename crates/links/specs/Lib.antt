@@ -3,11 +3,12 @@ pub mod Links
 pub mod Good
 pub mod Segments
 pub mod Station
+pub mod Bad
 pub mod Promises
 pub mod Interleaving
 pub mod Operations
 pub mod Demand3
 pub mod Demand2
-pub mod Bad
 pub mod Tables
 pub mod Idle
+pub mod Device

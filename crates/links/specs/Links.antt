@@ -24,9 +24,19 @@ use Rattle.links.specs.declared.Answer.the-variants as A
 
 -- ---- the two ends and their numbers
 
+-- the other end of a link
 abbrev pub peer : Side → Side
 peer Provisioner = Device
 peer Device = Provisioner
+
+-- an end that receives: the provisioner's, or that of a device with its own UUID
+pub data End : Type 0 where
+  provisioner : End
+  device : List ℕ → End
+
+abbrev pub sideOf : End → Side
+sideOf provisioner = Provisioner
+sideOf (device own) = Device
 
 -- the half of the numbers that an end sends: 0 for 0x00 to 0x7F, 1 for 0x80 to 0xFF
 abbrev pub halfSent : Side → ℕ
@@ -52,7 +62,8 @@ pub record Awaits (last : LastDelivered) (t : TransactionNumber) : Type 0 where
 
 -- ---- records
 
--- a record in a state and with a Link ID, and else blank: "sending from 0x00, nothing outstanding, last delivered or half-received"
+-- a record in a state and with a Link ID, and else blank: "sending from 0x00, nothing outstanding, last delivered or half-received"; from 0x80 at a
+-- device's end
 abbrev pub blankWith : Side → LinkState → ℕ → Link
 blankWith side state id = record { state = state; id = id; next = firstNumber side; outstanding = false; last = L.Nothing; half = H.Nothing }
 
@@ -90,7 +101,7 @@ findFrom k (l ∷ ls) id = cond (hasId l id) (At k) (findFrom (suc k) ls id)
 abbrev pub find : List Link → ℕ → Found
 find ls id = findFrom 0 ls id
 
--- ---- document 01's numbers and words
+-- ---- the numbers and words of document 01, and of request [1] for a device's end
 
 abbrev pub refusalNumber : Refusal → ℕ
 refusalNumber R.Malformed = 1
@@ -107,6 +118,8 @@ refusalNumber R.WrongArgument = 11
 refusalNumber R.NotOutstanding = 12
 refusalNumber R.Outstanding = 13
 refusalNumber R.BadState = 14
+refusalNumber R.OtherUuid = 15
+refusalNumber R.Busy = 16
 
 abbrev pub told : Answer → Told
 told (A.Refused r) = refused (refusalNumber r)

@@ -1,11 +1,14 @@
--- A station's calls in any mixture: any octets received, and the local calls of any socket with any arguments.
+-- The calls of an end in any mixture: any octets received, and the local calls of any socket with any arguments.
 use Prim.Native.Nat.{ℕ}
 use mathlib.Core.List.{List}
+use mathlib.Core.Path.{_≡_}
 use Rattle.octets.specs.Numbers.{Octets}
 use Rattle.transactions.specs.declared.Socket.{Socket}
+use Rattle.links.specs.Links.{End, sideOf}
 use Rattle.links.specs.Station.{Station, received, localOpen, localSend, localClose}
 use Rattle.links.specs.Interleaving.{stateAfter}
 use Rattle.links.specs.declared.Side.{Side}
+use Rattle.links.specs.declared.Side.the-variants.{Provisioner}
 use Rattle.links.specs.declared.Link.{Link}
 use Rattle.links.specs.declared.Answer.{Answer}
 
@@ -15,12 +18,12 @@ pub data Operation : Type 0 where
   sending : Socket → ℕ → Operation
   closing : Socket → Operation
 
--- any step in the place of a receiving call, and one for each side; document 01's is `received`, and the idle programs are others
+-- any step in the place of a receiving call, and one for each end; document 01's is `received`, and the idle programs are others
 abbrev pub ReceivingStep : Type 0
 ReceivingStep = Station → List ℕ → Answer × Station
 
 abbrev pub Receiver : Type 0
-Receiver = Side → ReceivingStep
+Receiver = End → ReceivingStep
 
 -- a local call leaves the area
 abbrev pub atRecords : Station → Answer × List Link → Answer × Station
@@ -34,16 +37,16 @@ operateBy step side σ (sending s n) = atRecords σ (localSend side (σ .links) 
 operateBy step side σ (closing s) = atRecords σ (localClose side (σ .links) s)
 
 -- by document 01's rules
-abbrev pub operate : Side → Station → Operation → Answer × Station
-operate side σ c = operateBy (received side) side σ c
+abbrev pub operate : End → Station → Operation → Answer × Station
+operate end σ c = operateBy (received end) (sideOf end) σ c
 
 -- the station after operations
-abbrev pub afterAll : Side → Station → List Operation → Station
-afterAll side σ operations = stateAfter (operate side) σ operations
+abbrev pub afterAll : End → Station → List Operation → Station
+afterAll end σ operations = stateAfter (operate end) σ operations
 
--- what is received are octets
-abbrev pub OfOctets : Operation → Type 0
-OfOctets (receiving f) = Octets f
-OfOctets (opening s id) = Unit {0}
-OfOctets (sending s n) = Unit {0}
-OfOctets (closing s) = Unit {0}
+-- what an end's host can do: what is received are octets, and a device's end has no local Open
+abbrev pub Offered : End → Operation → Type 0
+Offered end (receiving f) = Octets f
+Offered end (opening s id) = sideOf end ≡ Provisioner
+Offered end (sending s n) = Unit {0}
+Offered end (closing s) = Unit {0}

@@ -1,21 +1,22 @@
--- The station: link records, as many as there are sockets, and one area with 1,469 octets for each; the receiving call and the local calls.
+-- The station: link records, as many as there are sockets, and one area with 1,469 octets for each, or a device's one record and its area; the receiving
+-- call and the local calls.
 use Prim.Native.Nat.{ℕ, _*_}
 use mathlib.Core.Bool.{Bool, true, false, _&&_, cond}
 use mathlib.Core.List.{List}
 use lib.Dec.{eqb}
 use lib.ListN.{length, getD, set}
-use Rattle.octets.specs.Parts.{part, write}
+use Rattle.octets.specs.Parts.{part, write, same}
 use Rattle.octets.specs.Lengths.{isLength}
 use Rattle.transactions.specs.Numbers.{numberAfter, isSocket, socketPlace}
 use Rattle.transactions.specs.Segments.{segN}
-use Rattle.pb_adv.specs.Frame.{parsed}
+use Rattle.pb_adv.specs.Frame.{isUuid, parsed}
 use Rattle.transactions.specs.declared.TransactionNumber.{TransactionNumber}
 use Rattle.transactions.specs.declared.Socket.{Socket}
 use Rattle.pb_adv.specs.declared.FrameRefusal.{FrameRefusal}
 use Rattle.pb_adv.specs.declared.FrameRefusal.the-variants as F
 use Rattle.pb_adv.specs.declared.Parsed.{Parsed}
 use Rattle.pb_adv.specs.declared.Parsed.the-variants as P
-use Rattle.links.specs.Links.{peer, sends, blank, blankWith, withState, withSending, inUse, find}
+use Rattle.links.specs.Links.{peer, End, provisioner, device, sideOf, sends, blank, blankWith, withState, withSending, inUse, find}
 use Rattle.links.specs.Good.{good}
 use Rattle.links.specs.Segments.{OneLink, segmentStep}
 use Rattle.links.specs.declared.Side.{Side}
@@ -62,7 +63,7 @@ acknowledgementStep x t =
     (A.Acknowledged, setLink x (withSending (x .link) (numberAfter t) false))
     (A.Refused R.NotOutstanding, x)
 
--- an Ack on an open link: the device's end awaits none
+-- an Ack: "on an open one answers 'already'"; at a device's end "an Ack gets 5"
 abbrev pub ackStep : Side → OneLink → Answer × OneLink
 ackStep Provisioner x = (A.Already, x)
 ackStep Device x = (A.Refused R.WrongDirection, x)
@@ -72,7 +73,8 @@ abbrev pub frameRefusal : FrameRefusal → Refusal
 frameRefusal F.Malformed = R.Malformed
 frameRefusal F.UnknownOpcode = R.UnknownOpcode
 
--- what a frame f, parsed as p, does at a link of its Link ID, by the link's state: 4, 5, then what the frame is for
+-- what a frame f, parsed as p, does at a link of its Link ID, by the link's state: 4, 5, then what the frame is for. A device's end takes an Open before
+-- it comes here
 unfoldable pub frameStep : Side → OneLink → LinkState → List ℕ → Parsed → Answer × OneLink
 frameStep side x S.Free f p = (A.Refused R.UnknownLink, x)
 frameStep side x S.Opening f (P.Segment s) = (A.Refused R.NotOpen, x)
@@ -98,20 +100,42 @@ atSocket side σ (At s) f p =
     let r : Answer × OneLink = frameStep side (getLink s σ) (getLink s σ .link .state) f p in
     (r .0, putLink s (r .1) σ)
 
--- 1 and 2, or the record of the frame's Link ID
-abbrev pub onFrame : Side → Station → List ℕ → Parsed → Answer × Station
-onFrame side σ f (P.Segment s) = atSocket side σ (find (σ .links) (s .id)) f (P.Segment s)
-onFrame side σ f (P.Acknowledgement id t) = atSocket side σ (find (σ .links) id) f (P.Acknowledgement id t)
-onFrame side σ f (P.Open id uuid) = atSocket side σ (find (σ .links) id) f (P.Open id uuid)
-onFrame side σ f (P.Ack id) = atSocket side σ (find (σ .links) id) f (P.Ack id)
-onFrame side σ f (P.Close id reason) = atSocket side σ (find (σ .links) id) f (P.Close id reason)
-onFrame side σ f (P.Refused r) = (A.Refused (frameRefusal r), σ)
+-- an Open with a Link ID, its UUID from a place of the frame on, at the link of a device: 15 for another UUID than its own, 16 while it is "busy
+-- with another link"; "opened" by its own UUID, and "another such Open for the same Link ID answers 'already' and changes nothing"
+unfoldable pub openStep : List ℕ → OneLink → List ℕ → ℕ → ℕ → Answer × OneLink
+openStep own x f id uuid =
+    cond (same (part f uuid 16) own)
+    (cond (inUse (x .link .state))
+    (cond (eqb (x .link .id) id) (A.Already, x) (A.Refused R.Busy, x))
+    (A.Opened, setLink x (blankWith Device S.Open id)))
+    (A.Refused R.OtherUuid, x)
 
--- RECEIVING A FRAME: 11 an area of another length, 14 a bad state, then the frame
-unfoldable pub received : Side → Station → List ℕ → Answer × Station
-received side σ f =
-    cond (eqb (length (σ .area)) (1469 * length (σ .links)))
-    (cond (good side (σ .links)) (onFrame side σ f (parsed f)) (A.Refused R.BadState, σ))
+-- an Open, by the end: at a device's it "skips 3 to 5", and comes to the one record, whatever its Link ID
+abbrev pub onOpen : End → Station → List ℕ → ℕ → ℕ → Answer × Station
+onOpen provisioner σ f id uuid = atSocket Provisioner σ (find (σ .links) id) f (P.Open id uuid)
+onOpen (device own) σ f id uuid =
+    let r : Answer × OneLink = openStep own (getLink 0 σ) f id uuid in
+    (r .0, putLink 0 (r .1) σ)
+
+-- 1 and 2, or the record of the frame's Link ID
+abbrev pub onFrame : End → Station → List ℕ → Parsed → Answer × Station
+onFrame end σ f (P.Segment s) = atSocket (sideOf end) σ (find (σ .links) (s .id)) f (P.Segment s)
+onFrame end σ f (P.Acknowledgement id t) = atSocket (sideOf end) σ (find (σ .links) id) f (P.Acknowledgement id t)
+onFrame end σ f (P.Open id uuid) = onOpen end σ f id uuid
+onFrame end σ f (P.Ack id) = atSocket (sideOf end) σ (find (σ .links) id) f (P.Ack id)
+onFrame end σ f (P.Close id reason) = atSocket (sideOf end) σ (find (σ .links) id) f (P.Close id reason)
+onFrame end σ f (P.Refused r) = (A.Refused (frameRefusal r), σ)
+
+-- right arguments: an area of 1,469 octets for each record; a device has one record, and a UUID of 16 octets
+abbrev pub isRight : End → Station → Bool
+isRight provisioner σ = eqb (length (σ .area)) (1469 * length (σ .links))
+isRight (device own) σ = eqb (length (σ .area)) (1469 * length (σ .links)) && (eqb (length (σ .links)) 1 && isUuid own)
+
+-- RECEIVING A FRAME: 11 a wrong argument, 14 a bad state, then the frame
+unfoldable pub received : End → Station → List ℕ → Answer × Station
+received end σ f =
+    cond (isRight end σ)
+    (cond (good (sideOf end) (σ .links)) (onFrame end σ f (parsed f)) (A.Refused R.BadState, σ))
     (A.Refused R.WrongArgument, σ)
 
 -- ---- the local calls, over the records alone

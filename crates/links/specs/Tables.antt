@@ -19,12 +19,11 @@ use Rattle.transactions.specs.declared.Socket.{Socket}
 use Rattle.pb_adv.specs.Frame.{linkId, numberOf, highBits}
 use Rattle.pb_adv.specs.Tables.{isKind, isControl, isSegment, lengthIn, malformed, unknownOpcode}
 use Rattle.links.specs.Marks.{isMarked, withMark, allMarked}
-use Rattle.links.specs.Links.{find, refusalNumber, told}
+use Rattle.links.specs.Links.{End, provisioner, device, sideOf, find, refusalNumber, told}
 use Rattle.links.specs.Good.{good}
 use Rattle.links.specs.Bad.{blankRecord}
 use Rattle.links.specs.Segments.{OneLink, marked, begun}
-use Rattle.links.specs.Station.{Station, getLink, putLink, received, linkAt, localOpen, localSend, localClose}
-use Rattle.links.specs.Promises.{Sized}
+use Rattle.links.specs.Station.{Station, getLink, putLink, isRight, received, linkAt, localOpen, localSend, localClose}
 use Rattle.links.specs.Operations.{Receiver}
 use Rattle.links.specs.declared.Side.{Side}
 use Rattle.links.specs.declared.Side.the-variants.{Provisioner, Device}
@@ -41,11 +40,16 @@ use Rattle.links.specs.declared.Answer.the-variants as A
 use Rattle.links.specs.declared.Found.{Found}
 use Rattle.links.specs.declared.Found.the-variants.{At, Nowhere}
 
--- ---- 11, 14 and 3
+-- ---- 11, 14, 3, and what a frame is judged by
 
 -- "area length": 1,469 octets for each record
 abbrev pub wrongArea : Station → Bool
 wrongArea σ = not (eqb (length (σ .area)) (1469 * length (σ .links)))
+
+-- "an argument is wrong": at a device's end also another number of records than "one session" has, and the "UUID length"
+abbrev pub wrongArgument : End → Station → Bool
+wrongArgument provisioner σ = wrongArea σ
+wrongArgument (device own) σ = wrongArea σ || (not (eqb (length (σ .links)) 1) || not (eqb (length own) 16))
 
 -- "the state passed in is bad (below)"; the sentences below are those of `Bad.antt`
 abbrev pub badState : Side → List Link → Bool
@@ -61,14 +65,35 @@ abbrev pub isIdInUse : List Link → ℕ → Bool
 isIdInUse [] id = false
 isIdInUse (l ∷ ls) id = (not (isFree (l .state)) && eqb (l .id) id) || isIdInUse ls id
 
--- "Link ID of no record in use"
-abbrev pub unknownLink : Station → List ℕ → Bool
-unknownLink σ f = not (isIdInUse (σ .links) (linkId f))
+-- an Open that comes to a device: it "skips 3 to 5"
+abbrev pub isDeviceOpen : End → List ℕ → Bool
+isDeviceOpen provisioner f = false
+isDeviceOpen (device own) f = isControl 0 f
 
--- the link that a frame is for
+-- "Link ID of no record in use"
+abbrev pub unknownLink : End → Station → List ℕ → Bool
+unknownLink end σ f = not (isDeviceOpen end f) && not (isIdInUse (σ .links) (linkId f))
+
+-- the record that a frame is judged by: the one of its Link ID; for an Open that comes to a device, its one record
+abbrev pub placeFor : End → List Link → List ℕ → Found
+placeFor end ls f = cond (isDeviceOpen end f) (At 0) (find ls (linkId f))
+
+-- the link of it
 abbrev pub linkFound : Station → Found → OneLink
 linkFound σ (At s) = getLink s σ
 linkFound σ Nowhere = getLink (length (σ .links)) σ
+
+-- ---- "an Open .. gets 15 (other UUID), then 16 (busy with another link)"
+
+-- "other UUID": the 16 octets behind the opcode are not the device's own
+abbrev pub otherUuid : End → List ℕ → Bool
+otherUuid provisioner f = false
+otherUuid (device own) f = isControl 0 f && not (same (part f 6 16) own)
+
+-- "busy with another link"
+abbrev pub isBusy : End → Link → List ℕ → Bool
+isBusy provisioner l f = false
+isBusy (device own) l f = isControl 0 f && (not (isFree (l .state)) && not (eqb (l .id) (linkId f)))
 
 -- ---- 4, 5 and 12
 
@@ -81,10 +106,20 @@ isOpening S.Open = false
 abbrev pub notOpen : LinkState → List ℕ → Bool
 notOpen state f = isOpening state && not (isControl 1 f || isControl 2 f)
 
--- "a segment below 0x80, an acknowledgement above 0x7F, or an Open"; at the device's end the halves change places, and an Ack is refused too
+-- "a segment below 0x80, an acknowledgement above 0x7F, or an Open"; at a device's end with "the two halves exchanged", and "an Ack gets 5"
 abbrev pub wrongDirection : Side → List ℕ → Bool
 wrongDirection Provisioner f = (isSegment f && ltb (numberOf f .0) 0x80) || ((isKind 1 f && ltb 0x7F (numberOf f .0)) || isControl 0 f)
-wrongDirection Device f = (isSegment f && ltb 0x7F (numberOf f .0)) || ((isKind 1 f && ltb (numberOf f .0) 0x80) || (isControl 0 f || isControl 1 f))
+wrongDirection Device f = (isSegment f && ltb 0x7F (numberOf f .0)) || ((isKind 1 f && ltb (numberOf f .0) 0x80) || isControl 1 f)
+
+-- what opens a link: an Ack at the provisioner's end, an Open at a device's
+abbrev pub isOpener : Side → List ℕ → Bool
+isOpener Provisioner f = isControl 1 f
+isOpener Device f = isControl 0 f
+
+-- and the state of a record that it opens
+abbrev pub isUnopened : Side → LinkState → Bool
+isUnopened Provisioner state = isOpening state
+isUnopened Device state = isFree state
 
 -- "acknowledgement of a number not outstanding"
 abbrev pub notOutstanding : Link → List ℕ → Bool
@@ -167,18 +202,21 @@ isRepeat h f = isSegment f && isMarked (h .marks) (indexIn f)
 
 -- ---- THE TABLE
 
-abbrev pub receivingRows : Side → Station → List ℕ → List Row
-receivingRows side σ f =
-    let x = linkFound σ (find (σ .links) (linkId f)) in
+abbrev pub receivingRows : End → Station → List ℕ → List Row
+receivingRows end σ f =
+    let x = linkFound σ (placeFor end (σ .links) f) in
     let l = x .link in
     let h = messageOf (l .half) f in
-    refusal 11 (wrongArea σ)
-    ∷ refusal 14 (badState side (σ .links))
+    refusal 11 (wrongArgument end σ)
+    ∷ refusal 14 (badState (sideOf end) (σ .links))
     ∷ refusal 1 (malformed f)
     ∷ refusal 2 (unknownOpcode f)
-    ∷ refusal 3 (unknownLink σ f)
+    -- "on this side an Open skips 3 to 5 and gets 15 (other UUID), then 16 (busy with another link), after 2"
+    ∷ refusal 15 (otherUuid end f)
+    ∷ refusal 16 (isBusy end l f)
+    ∷ refusal 3 (unknownLink end σ f)
     ∷ refusal 4 (notOpen (l .state) f)
-    ∷ refusal 5 (wrongDirection side f)
+    ∷ refusal 5 (wrongDirection (sideOf end) f)
     ∷ refusal 12 (notOutstanding l f)
     -- "After 5 a segment with the link's last delivered number answers 'acknowledge again' and changes nothing, whatever it carries."
     ∷ reply "acknowledge again" [] (isLastDelivered (l .last) f)
@@ -192,20 +230,26 @@ receivingRows side σ f =
     ∷ reply "kept" [] (isSegment f)
     -- "An awaited acknowledgement .. answers 'acknowledged'."
     ∷ reply "acknowledged" [] (isKind 1 f)
-    -- "Ack opens an opening link ('opened'), and on an open one answers 'already'. Close frees the record in either state and gives the reason."
-    ∷ reply "opened" [] (isOpening (l .state) && isControl 1 f)
-    ∷ reply "already" [] (isControl 1 f)
+    -- "Ack opens an opening link ('opened'), and on an open one answers 'already'", and so does an Open at a device's end. "Close frees the record in
+    -- either state and gives the reason."
+    ∷ reply "opened" [] (isUnopened (sideOf end) (l .state) && isOpener (sideOf end) f)
+    ∷ reply "already" [] (isOpener (sideOf end) f)
     ∷ reply "closed" (getD f 6 0 ∷ []) (isControl 2 f)
     ∷ []
 
 -- any octets, on any call; stated of any receiver, and document 01's rules, `received`, meet it
 abbrev pub ReceivingTable : Receiver → Type 0
-ReceivingTable receive = (side : Side) (σ : Station) (f : List ℕ) → Octets f → ByTable (told (receive side σ f .0)) (receivingRows side σ f)
+ReceivingTable receive = (end : End) (σ : Station) (f : List ℕ) → Octets f → ByTable (told (receive end σ f .0)) (receivingRows end σ f)
 
 -- ---- WHAT EACH ANSWER LEAVES of the link that the frame is for; no other link and no other part of the area changes
 
--- segment k with octets d, of a message of which h says what is in
-module _ (side : Side) (x : OneLink) (h : HalfMessage) (k : ℕ) (d : List ℕ) where
+-- a record that its opener opens: the opening one, or a blank one with the Link ID of the Open
+abbrev pub openedRecord : Side → Link → ℕ → Link
+openedRecord Provisioner l id = record { state = S.Open; id = l .id; next = l .next; outstanding = l .outstanding; last = l .last; half = l .half }
+openedRecord Device l id = blankRecord Device S.Open id
+
+-- a frame with a Link ID, and segment k with octets d, of a message of which h says what is in
+module _ (side : Side) (x : OneLink) (id : ℕ) (h : HalfMessage) (k : ℕ) (d : List ℕ) where
   abbrev pub before : Link
   before = x .link
 
@@ -230,8 +274,7 @@ module _ (side : Side) (x : OneLink) (h : HalfMessage) (k : ℕ) (d : List ℕ) 
   leavesBy A.Repeat = x
   -- "the half-received record is cleared"; the number is the last delivered
   leavesBy (A.Delivered n t) = withSegment (L.Number t) H.Nothing
-  leavesBy A.Opened =
-      partStays (record { state = S.Open; id = before .id; next = before .next; outstanding = before .outstanding; last = before .last; half = before .half })
+  leavesBy A.Opened = partStays (openedRecord side before id)
   leavesBy A.Already = x
   leavesBy (A.Closed reason) = partStays (blankRecord side S.Free 0)
   -- it "clears the outstanding mark, steps the number"
@@ -242,13 +285,13 @@ module _ (side : Side) (x : OneLink) (h : HalfMessage) (k : ℕ) (d : List ℕ) 
   leavesBy A.Done = x
 
 abbrev pub leaves : Side → OneLink → List ℕ → Answer → OneLink
-leaves side x f a = leavesBy side x (messageOf (x .link .half) f) (indexIn f) (octetsIn f) a
+leaves side x f a = leavesBy side x (linkId f) (messageOf (x .link .half) f) (indexIn f) (octetsIn f) a
 
 -- past 11 and 14
 abbrev pub ReceivingLeaves : Type 0
 ReceivingLeaves =
-    (side : Side) (σ : Station) (f : List ℕ) → Sized σ → good side (σ .links) ≡ true
-    → (s : ℕ) → find (σ .links) (linkId f) ≡ At s → received side σ f .1 ≡ putLink s (leaves side (getLink s σ) f (received side σ f .0)) σ
+    (end : End) (σ : Station) (f : List ℕ) → isRight end σ ≡ true → good (sideOf end) (σ .links) ≡ true
+    → (s : ℕ) → placeFor end (σ .links) f ≡ At s → received end σ f .1 ≡ putLink s (leaves (sideOf end) (getLink s σ) f (received end σ f .0)) σ
 
 -- ---- the local calls
 
@@ -293,13 +336,16 @@ closeRows side ls s =
 abbrev pub withMarkSet : Link → Link
 withMarkSet l = record { state = l .state; id = l .id; next = l .next; outstanding = true; last = l .last; half = l .half }
 
+-- the local Open, which a device's end doesn't have; it leaves an opening record, and no other record changes
+pub record OpenTables (ls : List Link) (s : Socket) : Type 0 where
+  pub opening : (id : ℕ) → ByTable (told (localOpen Provisioner ls s id .0)) (openRows Provisioner ls s id)
+  pub opened : (id : ℕ) → told (localOpen Provisioner ls s id .0) ≡ answered "done" []
+      → localOpen Provisioner ls s id .1 ≡ set ls (socketPlace s) (blankRecord Provisioner S.Opening id)
+
 pub record LocalTables (side : Side) (ls : List Link) (s : Socket) : Type 0 where
-  pub opening : (id : ℕ) → ByTable (told (localOpen side ls s id .0)) (openRows side ls s id)
   pub sending : (n : ℕ) → ByTable (told (localSend side ls s n .0)) (sendRows side ls s n)
   pub closing : ByTable (told (localClose side ls s .0)) (closeRows side ls s)
-  -- an Open leaves an opening record, a Send "sets the mark", a Close "frees the record"; no other record changes
-  pub opened : (id : ℕ) → told (localOpen side ls s id .0) ≡ answered "done" []
-      → localOpen side ls s id .1 ≡ set ls (socketPlace s) (blankRecord side S.Opening id)
+  -- a Send "sets the mark", a Close "frees the record"; no other record changes
   pub sent : (n : ℕ) (values : List ℕ) → told (localSend side ls s n .0) ≡ answered "sending" values
       → localSend side ls s n .1 ≡ set ls (socketPlace s) (withMarkSet (linkAt ls s))
   pub closed : told (localClose side ls s .0) ≡ answered "done" [] → localClose side ls s .1 ≡ set ls (socketPlace s) (blankRecord side S.Free 0)

@@ -1,5 +1,5 @@
-// The link records of a station and the answers of its calls. The rules over them are specs/, the promises proofs/; the code that
-// runs them is in the crates local_calls and station.
+// The link records of an end and the answers of its calls. The rules over them are specs/, the promises proofs/; the code that runs
+// them is in the crates link_steps, local_calls, station and device.
 use transactions::TransactionNumber;
 
 // The end of the links that a record is of.
@@ -50,7 +50,7 @@ pub enum Found {
     Nowhere,
 }
 
-// Why a call is refused, in the order of document 01's numbers, from 1.
+// Why a call is refused, in the order of document 01's numbers, from 1; the last two are a device's.
 pub enum Refusal {
     Malformed,
     UnknownOpcode,
@@ -66,9 +66,11 @@ pub enum Refusal {
     NotOutstanding,
     Outstanding,
     BadState,
+    OtherUuid,
+    Busy,
 }
 
-// The answers of the station's calls.
+// The answers of the calls of either end.
 pub enum Answer {
     Refused(Refusal),
     AcknowledgeAgain,

@@ -30,6 +30,8 @@ pub fn of_station(refusal: Refusal) -> u8
         Refusal::NotOutstanding => 12,
         Refusal::Outstanding => 13,
         Refusal::BadState => 14,
+        Refusal::OtherUuid => 15,
+        Refusal::Busy => 16,
     }
 }
 

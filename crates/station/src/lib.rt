@@ -1,42 +1,35 @@
 // The station's receiving call: eight sockets, the provisioner's end. It takes the eight link records by value and hands them back.
 use link_records::Received;
 use link_records::refuse_call;
+use link_steps::Stepped;
 use links::Found;
 use links::Link;
 use links::Refusal;
 use links::Side;
 use octets::LONGEST_MESSAGE;
-ghost use Prim.Native.Nat.{_<_};
+ghost use Prim.Native.Nat.{_*_, _<_};
 ghost use mathlib.Core.Path.{_≡_};
 ghost use lib.ListN.{length};
-ghost use Rattle.station.specs.Calls.{receiving, receivedOf, atPlace, placeOf};
+ghost use Rattle.octets.specs.Parts.{write};
+ghost use Rattle.link_steps.specs.Calls.{steppedOf};
+ghost use Rattle.station.specs.Calls.{receiving, receivedOf, stepOf, placeOf};
 
 // The octets of the area: those of a longest message for each socket.
 pub const AREA_LENGTH: usize = 8 * LONGEST_MESSAGE;
 
-// A frame for the link at a place.
-fn at_socket(links: [Link; 8], place: usize, area: &mut [u8], frame: &[u8]) -> Received
+// A frame for the link at a place, which is lent its socket's part of the area.
+fn step_at(link: Link, place: usize, area: &mut [u8], frame: &[u8]) -> Stepped
     requires { ⌜ (place < 8) × (length (now area) ≡ 11752) ⌝ }
-    ensures { λ r. ⌜ (r ≡ receivedOf (atPlace links (now (area .entry)) (now (frame .entry)) place))
-        × (now (area .exit) ≡ atPlace links (now (area .entry)) (now (frame .entry)) place .1 .area) ⌝ }
+    ensures { λ r. ⌜ (r ≡ steppedOf (stepOf link (now (area .entry)) (now (frame .entry)) place))
+        × (now (area .exit) ≡ write (now (area .entry)) (1469 * place) (stepOf link (now (area .entry)) (now (frame .entry)) place .1 .part)) ⌝ }
 {
-    // One copy of the records, in which the record is read and stored.
-    let mut after = links;
-    let link = after[place];
     let base = LONGEST_MESSAGE * place;
-    let stepped = link_steps::step(
+    link_steps::receive(
         Side::Provisioner,
         link,
         &mut area[base..base + LONGEST_MESSAGE],
         frame,
-    );
-    let next = stepped.link;
-    let answer = stepped.answer;
-    after[place] = next;
-    Received {
-        links: after,
-        answer: answer,
-    }
+    )
 }
 
 // The place of the record that was found. Where none was, that of any will do: no record has the frame's Link ID, and each refuses it.
@@ -60,7 +53,17 @@ pub fn receive(links: [Link; 8], area: &mut [u8], frame: &[u8]) -> Received
     if link_state::is_good(Side::Provisioner, links) {
         // A frame begins with its Link ID.
         let found = link_search::find_link(links, octets::read32(frame, 0));
-        return at_socket(links, place_of(found), area, frame);
+        let place = place_of(found);
+        let stepped = step_at(links[place], place, area, frame);
+        let next = stepped.link;
+        let answer = stepped.answer;
+        // The records are copied once, after the step.
+        let mut after = links;
+        after[place] = next;
+        return Received {
+            links: after,
+            answer: answer,
+        };
     }
     refuse_call(links, Refusal::BadState)
 }

@@ -14,8 +14,8 @@ refuse-call-requires c κs = search needs
 returns : tie.Need-returns
 returns c =
     let a = c .before .before .before .before .args in
-    let n : length (a .links) ≡ 8 = search needs in
-    let e = received-small (a .links) (a .area .now) (a .frame .now) n (c .before .if1 .taken) in
+    let n : length (a .t1) ≡ 8 = search needs in
+    let e = received-small (a .t1) (a .area .now) (a .frame .now) n (c .before .if1 .taken) in
     (simp (e, c .refuse-call .ensures), simp e)
 
 is-good-requires : tie.Need-is-good-requires
@@ -30,23 +30,45 @@ find-link-requires c κs = search needs
 place-of-requires : tie.Need-place-of-requires
 place-of-requires c κs = search needs
 
-at-socket-requires : tie.Need-at-socket-requires
-at-socket-requires c κs =
-    let a = c .before .before .before .before .before .before .before .before .before .args in
-    let n : length (a .links) ≡ 8 = search needs in
-    let f : find (a .links) (linkId (a .frame .now)) ≡ c .before .before .find-link .result = ap (find (a .links)) (sym (c .before .before .before .read32 .ensures)) ∙ sym (c .before .before .find-link .ensures) in
-    (rw (c .before .place-of .ensures) (place-below (a .links) (a .area .now) (a .frame .now) n (linkId (a .frame .now)) (c .before .before .find-link .result) f), c .before .before .before .before .before .before .if1 .left)
+mul-step-at : tie.Need-mul-step-at
+mul-step-at c =
+    let d = c in
+    let b = place-below (d .before .before .before .before .before .before .before .before .args .t1) (search needs) _ _ (d .before .find-link .ensures) _ (d .place-of .ensures) in
+    search needs
+
+array-copy-out-step-at : tie.Need-array-copy-out-step-at
+array-copy-out-step-at c =
+    let d = c in
+    place-below (d .before .before .before .before .before .before .before .before .args .t1) (search needs) _ _ (d .before .find-link .ensures) _ (d .place-of .ensures)
+
+step-at-requires : tie.Need-step-at-requires
+step-at-requires c κs =
+    let d = c .before .before in
+    (place-below (d .before .before .before .before .before .before .before .before .args .t1) (search needs) _ _ (d .before .find-link .ensures) _ (d .place-of .ensures), d .before .before .before .before .before .if1 .left)
+
+mul-after : tie.Need-mul-after
+mul-after c =
+    let d = c .before .before .before .before .before .before in
+    let b = place-below (d .before .before .before .before .before .before .before .before .args .t1) (search needs) _ _ (d .before .find-link .ensures) _ (d .place-of .ensures) in
+    search needs
+
+array-set-from-after : tie.Need-array-set-from-after
+array-set-from-after c =
+    let d = c .before .before .before .before .before .before in
+    place-below (d .before .before .before .before .before .before .before .before .args .t1) (search needs) _ _ (d .before .find-link .ensures) _ (d .place-of .ensures)
 
 same-length : tie.Need-same-length
 same-length c = search needs
 
 returns-2 : tie.Need-returns-2
 returns-2 c =
-    let a = c .before .before .before .before .before .before .before .before .before .before .before .before .args in
-    let n : length (a .links) ≡ 8 = search needs in
-    let f : find (a .links) (linkId (a .frame .now)) ≡ c .before .before .before .before .before .find-link .result = ap (find (a .links)) (sym (c .before .before .before .before .before .before .read32 .ensures)) ∙ sym (c .before .before .before .before .before .find-link .ensures) in
-    let e = received-found (a .links) (a .area .now) (a .frame .now) n (c .before .before .before .before .before .before .before .before .before .if1 .left) (sym (c .before .before .before .before .before .before .before .before .is-good .ensures) ∙ c .before .before .before .before .before .before .before .if2 .taken) (c .before .before .before .before .before .find-link .result) f in
-    (rw (e, ← (c .before .before .before .before .place-of .ensures)) (c .before .before .at-socket .ensures .0), rw (e, ← (c .before .before .before .before .place-of .ensures)) (c .before .before .at-socket .ensures .1))
+    let d = c .before .before .before .before .before .before in
+    let a = d .before .before .before .before .before .before .before .before .args in
+    let n : length (a .t1) ≡ 8 = search needs in
+    let f : find (a .t1) (linkId (a .frame .now)) ≡ d .before .find-link .result = ap (find (a .t1)) (sym (d .before .before .read32 .ensures)) ∙ sym (d .before .find-link .ensures) in
+    let e = received-found (a .t1) (a .area .now) (a .frame .now) n (d .before .before .before .before .before .if1 .left) (sym (d .before .before .before .before .is-good .ensures) ∙ d .before .before .before .if2 .taken) (d .before .find-link .result) f in
+    let st = c .before .before .before .step-at in
+    (rw (e, ← (d .place-of .ensures), st .ensures .0), rw (e, ← (d .place-of .ensures)) (st .ensures .1))
 
 refuse-call-requires-2 : tie.Need-refuse-call-requires-2
 refuse-call-requires-2 c κs = search needs
@@ -54,8 +76,8 @@ refuse-call-requires-2 c κs = search needs
 returns-3 : tie.Need-returns-3
 returns-3 c =
     let a = c .before .before .before .before .before .before .args in
-    let n : length (a .links) ≡ 8 = search needs in
-    let e = received-bad (a .links) (a .area .now) (a .frame .now) n (c .before .before .before .if1 .left) (sym (c .before .before .is-good .ensures) ∙ c .before .if2 .left) in
+    let n : length (a .t1) ≡ 8 = search needs in
+    let e = received-bad (a .t1) (a .area .now) (a .frame .now) n (c .before .before .before .if1 .left) (sym (c .before .before .is-good .ensures) ∙ c .before .if2 .left) in
     (simp (e, c .refuse-call2 .ensures), simp e)
 
 pub receive-spec : {M : Type 1} → statement M
@@ -68,7 +90,11 @@ receive-spec =
     read32-requires
     find-link-requires
     place-of-requires
-    at-socket-requires
+    mul-step-at
+    array-copy-out-step-at
+    step-at-requires
+    mul-after
+    array-set-from-after
     same-length
     returns-2
     refuse-call-requires-2
