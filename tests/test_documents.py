@@ -67,9 +67,20 @@ class Pages(unittest.TestCase):
         self.assertIn("and only 1 to 12 and 42 to 45 do", " ".join(text_of("docs/REFUSALS.md").split()))
 
     def test_drawing(self):
-        """From above, the numbers stand in the order of receiving."""
-        drawn = re.findall(r"├─ +(\d+) ──|┬─ +(\d+) ──", text_of("docs/REFUSALS.md"))
-        self.assertEqual(tuple(int(first or second) for first, second in drawn), orders_of_replay()["RF"])
+        """From above, the numbers stand in the order of receiving; from 12 on the device's end has the station's."""
+        drawings = re.findall(r"^```text$(.*?)^```$", text_of("docs/REFUSALS.md"), re.MULTILINE | re.DOTALL)
+        station, device = [tuple(map(int, re.findall(r"[├┬]─ +(\d+) ──", drawing))) for drawing in drawings]
+        self.assertEqual(station, orders_of_replay()["RF"])
+        self.assertEqual(device + station[station.index(12):], orders_of_replay()["DR"])
+
+    def test_worked_lines(self):
+        """What the page shows of the worked script stands in it, in this order."""
+        section = text_of("docs/REPLAY.md").split("## A worked script")[1]
+        shown = [line.strip() for line in section.splitlines() if line.startswith("    ")]
+        worked = text_of("tests/scripts/worked.txt").splitlines()
+        self.assertGreater(len(shown), 15)
+        places = [worked.index(line) for line in shown]
+        self.assertEqual(places, sorted(places))
 
     def test_nothing_left_open(self):
         for page in PAGES:

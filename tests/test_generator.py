@@ -12,7 +12,7 @@ from model.generator.line_input import random_input
 from model.generator.scripts import mixed_script
 from model.generator.tray_log import random_log, stored_log
 from model.import_program import answer_log
-from model.replay import answer_script
+from model.replay import CALLS, answer_script
 
 TESTS = pathlib.Path(__file__).resolve().parent
 PROGRAM = """#!%s
@@ -40,6 +40,13 @@ class Seeds(unittest.TestCase):
         script = mixed_script(3, 3000)
         followed = [script.lines[index + 1] for index, answer in enumerate(script.answers[:-1]) if answer.startswith("!")]
         self.assertEqual(set(followed), {b"ZH"})
+
+
+    def test_every_call_is_in_a_mixed_script(self):
+        """Receiving, at the station and at the device's end, is most of them."""
+        named = Counter(line[:2].decode("latin-1") for line in mixed_script(5, 8000).lines)
+        self.assertEqual(set(CALLS) - set(named), set())
+        self.assertEqual(set(sorted(CALLS, key=lambda name: -named[name])[:2]), {"RF", "DR"})
 
 
 class Logs(unittest.TestCase):

@@ -25,8 +25,10 @@ class Stored(unittest.TestCase):
     def test_samples_and_figures(self):
         operations = sample_operations()
         frames = [frame for step in SAMPLES["steps"] for frame in step["frames"]]
-        played = sum(line.startswith(("RF", "W")) for line, _ in operations)
-        self.assertEqual(played, len(frames))
+        played = [line[:1] for line, _ in operations if line.startswith(("RF", "DR", "W"))]
+        # Each frame is written at one end and received at the other.
+        self.assertEqual(len(played), 2 * len(frames))
+        self.assertEqual(played.count("W"), len(frames))
         self.run_all(operations)
 
     def test_sample_beacons(self):
@@ -38,7 +40,7 @@ class Stored(unittest.TestCase):
                                    "K001234567901"])
 
 
-class Hash(unittest.TestCase):
+class Hash(ScriptedTest):
     def test_octet_by_octet(self):
         chance = Chance(1)
         for lengths in ((0,), (1,), (255, 1), (256,), (257, 3), (1000, 0, 600)):
@@ -50,13 +52,28 @@ class Hash(unittest.TestCase):
 
     def test_every_state_and_storage_is_in_it(self):
         changes = ("LS01" + "00" + "00000000" + "00" + "01" + "0" * 30, "XS0100000000", "FS0100" + "0000" * 16, "KS000000000001",
-                   "VS0001", "AW2DFF01", "BW05FF01", "OW0FFF01")
+                   "VS0001", "AW2DFF01", "BW05FF01", "OW0FFF01", "EW05FF01", "DS0200000000" + "80" + "0" * 32)
         hashes = set()
         for change in changes:
             program = Program()
             self.assertEqual(program.answer(change.encode("ascii")), "OK")
             hashes.add(program.answer(b"ZH"))
         self.assertEqual(len(hashes), len(changes))
+
+
+    def test_its_order(self):
+        """The station's states and storages, then the device's record and its storage."""
+        program = self.play("DS0200000005FF01017F010000162B0000000000000001  OK\nEW0000AABB  OK")
+        shown = [program.answer(name).encode() for name in (b"LA", b"XD", b"FD", b"KD", b"VD")]
+        storages = [bytes(0x2E00), bytes(0x600), bytes(0x1000)]
+        device = b"D0200000005FF01017F010000162B0000000000000001", b"\xAA\xBB" + bytes(0x5FE)
+        self.assertEqual(program.answer(b"ZH"), "H%08X" % hash_of(*shown, *storages, *device))
+
+    def test_the_own_uuid_is_no_part_of_it(self):
+        program = Program()
+        before = program.answer(b"ZH"), program.answer(b"EH"), program.answer(b"DD")
+        self.assertEqual(program.answer(b"DU" + b"5A" * 16), "OK")
+        self.assertEqual((program.answer(b"ZH"), program.answer(b"EH"), program.answer(b"DD")), before)
 
 
 class Lines(ScriptedTest):
@@ -68,7 +85,10 @@ class Lines(ScriptedTest):
                      b"LS09" + b"0" * 44, b"LS0103" + b"0" * 42, b"LS01" + b"0" * 43, b"LS01" + b"0" * 45, b"LD00", b"LD09", b"LD0A", b"XS0200000000",
                      b"XS0002000000", b"FS0200" + b"0" * 64, b"KS000000000002", b"VS000", b"VS0000" + b"00" * 0x601, b"RF2E01", b"RF2DE80",
                      b"XR0601", b"WA100100000000", b"VF0000", b"BR020000", b"BR000200", b"BR000002", b"PR0", b"PR" + b"00" * 4095 + b"0",
-                     b"PR" + b"00" * 4096, b"\xff\xff"):
+                     b"PR" + b"00" * 4096, b"DS" + b"0" * 43, b"DS" + b"0" * 45, b"DS03" + b"0" * 42,
+                     b"DS02" + b"0" * 10 + b"02" + b"0" * 30, b"DD0", b"DD00", b"DU0", b"DU" + b"00" * 0x21, b"DR", b"DR05B",
+                     b"DR05BD0", b"DR0601", b"DN", b"DN001", b"DN00001", b"DC0", b"DC00", b"EF0", b"EW05FF0000", b"EW060000",
+                     b"ED05FF0002", b"EH00", b"\xff\xff"):
             self.assertEqual(program.answer(line), "?", line[:40])
         self.assertEqual(program.answer(b"ZH"), before)
 
@@ -80,11 +100,40 @@ class Lines(ScriptedTest):
             AD2DFF0001  HAA
             OD00600FA0  H%s
             RF2E00  !11
+            DR0600  !11
             XR0600  !11
             WA100000000000  W0006000000000007
         """ % ("00" * 4000))
         self.assertEqual(Program().answer(b"PR" + b"40" * 4095), "!42")
         self.assertEqual(Program().answer(b"VS0000" + b"00" * 0x600), "OK")
+
+    def test_the_device(self):
+        """What is held for it: its record, its own UUID with its length, and storage E; all as at start after ZZ."""
+        self.play("""
+            DD  D00000000008000000000000000000000000000000000
+            DR05BD00000001000300000000000000000000000000000000  U
+            DUAAAAAAAAAAAAAAAAAAAAAAAAAAAAAAAA  OK
+            DR05BD00000001000300000000000000000000000000000000  !15
+            DR05BD000000010003AAAAAAAAAAAAAAAAAAAAAAAAAAAAAAAA  Y
+            DU%s  OK
+            DR05BD000000010003AAAAAAAAAAAAAAAAAAAAAAAAAAAAAAAA  !11
+            DU  OK
+            DR05BD00000001000B00  !11
+            EF11  OK
+            EW05BCAABBCC  OK
+            ED05BB0005  H11AABBCC11
+            ED05FF0001  H11
+            DS02000000058001017F017E002200FFFFFFFFFFFFFFFF  OK
+            DD  D02000000058001017F017E002200FFFFFFFFFFFFFFFF
+            DC  !14
+            DS010000000500000055007E002200FFFFFFFFFFFFFFFF  OK
+            DD  D01000000050000000000000000000000000000000000
+            ZZ  OK
+            DD  D00000000008000000000000000000000000000000000
+            ED00000004  H00000000
+            DR05BD00000001000300000000000000000000000000000000  U
+            LA  L%s
+        """ % ("AA" * 32, "00" * 176))
 
     def test_end_of_input(self):
         self.assertEqual(answer_script(b""), b"")

@@ -4,10 +4,11 @@ import unittest
 from model.frames import cut
 from model.generator.bad_records import BAD_RECORDS, good_record
 from model.generator.chance import Chance
+from model.links import PROVISIONER, Record, record_is_bad, state_is_bad
 from model.record_text import record_text
 from model.replay import Program
 from model.script_line import hexadecimal
-from model.station import AREA_LENGTH, Record, blank_records, receive, record_is_bad, state_is_bad
+from model.station import AREA_LENGTH, blank_records, receive
 from scripted import ScriptedTest
 
 OPEN_LINK = """
@@ -150,14 +151,14 @@ class BadStates(unittest.TestCase):
         """Each bad record, in each place, is refused by each call, and nothing changes."""
         chance = Chance(4)
         calls = (b"RF2DE8000000050007", b"OP0200000009", b"SN010001", b"CL01")
-        for make in BAD_RECORDS.values():
+        for make in BAD_RECORDS[PROVISIONER].values():
             for _ in range(20):
                 self.refused(chance, make, chance.between(2, 8), calls)
 
     def refused(self, chance, make, socket, calls):
         program = Program()
         program.answer(b"OP0100000005")
-        record = make(chance, program.records)
+        record = make(chance, PROVISIONER, program.records)
         program.answer(("LS%02X" % socket + record_text(record)).encode())
         before = program.answer(b"ZH")
         for call in calls:
@@ -167,12 +168,12 @@ class BadStates(unittest.TestCase):
     def test_good_edges(self):
         chance = Chance(5)
         for _ in range(500):
-            self.assertFalse(record_is_bad(good_record(chance, blank_records())))
+            self.assertFalse(record_is_bad(PROVISIONER, good_record(chance, PROVISIONER, blank_records())))
         for text in ("01000000000000000000000000000000000000000000", "0200000000000001FF01800015300000000000000001",
                      "02FFFFFFFF7F0101FF018005BDFF7FFFFFFFFFFFFFFF"):
             program = Program()
             self.assertEqual(program.answer(b"LS01" + text.encode()), "OK")
-            self.assertFalse(state_is_bad(program.records), text)
+            self.assertFalse(state_is_bad(PROVISIONER, program.records), text)
 
     def test_what_a_flag_governs_is_dropped(self):
         program = Program()

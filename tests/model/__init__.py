@@ -1,1 +1,1 @@
-"""The rules of document 01, written a second time, in Python and from the document alone, to compare the proved programs with."""
+"""The rules of documents 01 and 02, written a second time in Python from these alone, to compare the programs with."""

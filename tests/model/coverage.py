@@ -6,6 +6,7 @@ from model.replay import OPERATIONS
 ANSWERS = {
     "RF": "11 14 01 02 03 04 05 12 06 07 08 K R D G U Y C A",
     "OP": "11 14 09 10 OK", "SN": "11 14 04 13 S", "CL": "11 14 04 OK",
+    "DR": "11 14 01 02 15 16 03 05 12 06 07 08 K R D G U Y C A", "DN": "11 14 04 13 S", "DC": "14 04 OK",
     "WS": "11 W", "WK": "11 W", "WO": "11 W", "WA": "11 W", "WC": "11 W", "CK": "11 N", "SG": "11 N",
     "PR": "41 42 43 44 45 M00 M01 M02 M03 M04 M05 M06 M07 M08 M09",
     "VB": "44 N", "VW": "44 N", "VF": "44 P",
@@ -14,9 +15,9 @@ ANSWERS = {
     "BR": "14 51 52 53 54 55 57 U B0000 B0001 B0002 B0100 B0101 B0102",
     "KI": "14 56 K00", "KT": "14 56 K00 K01",
 }
-SHOWN = {"ZZ": "OK", "ZH": "H", "LS": "OK", "LD": "L", "LA": "L", "XS": "OK", "XD": "X", "FS": "OK", "FD": "F", "KS": "OK",
-         "KD": "K", "VS": "OK", "VD": "V"}
-for storage in "ABO":
+SHOWN = {"ZZ": "OK", "ZH": "H", "LS": "OK", "LD": "L", "LA": "L", "XS": "OK", "XD": "X", "FS": "OK", "FD": "F",
+         "KS": "OK", "KD": "K", "VS": "OK", "VD": "V", "DS": "OK", "DD": "D", "DU": "OK"}
+for storage in "ABOE":
     SHOWN.update({storage + "F": "OK", storage + "W": "OK", storage + "D": "H", storage + "H": "H"})
 
 # Answers whose digits are part of the case.
@@ -38,7 +39,7 @@ def pairs(name, first, seconds):
 
 
 def orders():
-    """Of two conditions at once the one that stands first in document 01's order is given."""
+    """Of two conditions at once the one that stands first in the order of documents 01 and 02 is given."""
     required = []
     for name, cases in sorted(ANSWERS.items()):
         listed = cases.split()
@@ -50,6 +51,10 @@ def orders():
     required += pairs("RF", "03", "04 05 12 06 07 08 G") + pairs("RF", "04", "05 12 06 07 G") + pairs("RF", "05", "12 06 G")
     required += pairs("OP", "11", "14 09 10") + pairs("OP", "09", "10")
     required += pairs("SN", "11", "14 04 13") + pairs("CL", "11", "14 04")
+    required += pairs("DR", "11", "14 01 02 15 16 03 05 12 06 07 08 K R D G U Y C A")
+    required += pairs("DR", "01", "02 15 16 03 05 12 06 07 08 G") + pairs("DR", "02", "03")
+    required += pairs("DR", "15", "16 U Y") + pairs("DR", "16", "U Y") + pairs("DR", "03", "05 12 06 07 08 G")
+    required += pairs("DR", "05", "12 06 08 G") + pairs("DN", "11", "14 04 13")
     required += pairs("XR", "11", "14 26 21 22 23 24 25 M T") + pairs("XR", "26", "21 22 23 25 M T")
     required += pairs("XR", "21", "22 23 24") + pairs("XR", "22", "23 24 25") + pairs("XR", "23", "24 25")
     required += pairs("XR", "24", "25") + pairs("FM", "32", "33") + pairs("FM", "33", "34")

@@ -3,6 +3,7 @@ import re
 
 from model import provisioning, station
 from model.frames import LONGEST_MESSAGE, read_frame
+from model.links import find_link
 from model.refusal import WRONG_ARGUMENT, Refusal, refuse_if
 from model.stock_table import FIELDS, HEADER, row_text
 
@@ -75,7 +76,7 @@ class Import:
         except Refusal:
             return {}
         columns = {"link_id": frame.link_id}
-        index = station.find_link(self.records, frame.link_id)
+        index = find_link(self.records, frame.link_id)
         if index is not None:
             columns["socket"] = index + 1
         if frame.kind in NUMBERED:
@@ -100,7 +101,7 @@ class Import:
         if number == 3:
             return "Close of no link" if frame.kind == "Close" else None
         # As whole numbers: 0x7F is not one less than 0x00.
-        record = self.records[station.find_link(self.records, frame.link_id)]
+        record = self.records[find_link(self.records, frame.link_id)]
         return "acknowledgement again" if frame.number + 1 == record.next_number else None
 
     def answered(self, answer, columns):
@@ -134,7 +135,7 @@ class Import:
 
     def sent(self, frame):
         """A frame that the station sent, by name: it does what keeps the link's record as the station had it."""
-        index = station.find_link(self.records, frame.link_id)
+        index = find_link(self.records, frame.link_id)
         if frame.kind == "Start":
             refuse_if(index is None, 3)
             return self.sent_start(frame, index)

@@ -6,7 +6,7 @@ from model.frames import read_frame
 from model.import_program import FORMS, Import, form_of, log_lines
 from model.refusal import Refusal
 from model.script_line import split_lines
-from model.station import FREE, LAST_OF_OURS, OPENING, find_link
+from model.links import FREE, OPENING, PROVISIONER, find_link
 from model.stock_table import FIELDS
 
 DIGITS = re.compile(b"[0-9A-Fa-f]*")
@@ -81,8 +81,8 @@ def shape_cases(line, dropped):
 def number_detail(number, record):
     """How a number stands to the link's next sending number."""
     near = {0: "the next", -1: "one less", 1: "one more"}.get(number - record.next_number, "another")
-    if number == LAST_OF_OURS:
-        near = {0: "0x7F at 0x00", LAST_OF_OURS: "the next 0x7F"}.get(record.next_number, near)
+    if number == PROVISIONER.last:
+        near = {0: "0x7F at 0x00", PROVISIONER.last: "the next 0x7F"}.get(record.next_number, near)
     if record.use == OPENING:
         return near + ", link opening"
     return near + (", outstanding" if record.outstanding else ", not outstanding")

@@ -2,7 +2,7 @@
 from model.proxy import Transfer
 from model.proxy_filter import PLACES, Filter
 from model.script_line import digits_of, malformed_if
-from model.station import OPENED, Half, Record
+from model.links import OPENED, Half, Record
 
 RECORD = "use:2 Link-ID:8 next:2 outstanding:flag delivered:flag last:2 half:flag number:2 L:4 check:2 marks:16"
 FILTER = "type:flag count:2 " + " ".join("address:4" for _ in range(PLACES))

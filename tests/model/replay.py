@@ -1,8 +1,8 @@
 """The replay program: a script of operations in, one answer line for each out.
 
 It keeps the states and the storages between lines; one operation makes one call. The numbers and words are those of
-document 01."""
-from model import beacon, frames, provisioning, proxy, proxy_filter, station
+documents 01 and 02."""
+from model import beacon, device_end, frames, provisioning, proxy, proxy_filter, station
 from model.record_text import (FILTER, RECORD, filter_of_arguments, filter_text, key_state_text, record_of, record_text,
                                transfer_of, transfer_text)
 from model.refusal import Refusal
@@ -11,6 +11,7 @@ from model.storage import SIZES, hash_of
 
 LONGEST_SHOWN = 0x0FA0
 LONGEST_VIEW = 0x0600
+LONGEST_OWN_UUID = 0x0020
 RECEIVED = {"kept": "K", "repeat": "R", "acknowledge again": "G", "opened": "U", "already": "Y", "acknowledged": "A"}
 
 
@@ -27,6 +28,8 @@ class Program:
         self.filter = proxy_filter.Filter()
         self.key_state = beacon.KeyState()
         self.view = provisioning.View()
+        self.session = device_end.blank_session()
+        self.own_uuid = bytes(frames.UUID_LENGTH)
         return "OK"
 
     def answer(self, line):
@@ -47,7 +50,8 @@ class Program:
     def show_all(self):
         shown = self.show_records(), self.show_transfer(), self.show_filter(), self.show_key_state(), self.show_view()
         texts = [text.encode("ascii") for text in shown]
-        return "H" + digits_of(hash_of(*texts, *(self.storages[name] for name in "ABO")), 8)
+        parts = texts + [self.storages[name] for name in "ABO"]
+        return "H" + digits_of(hash_of(*parts, self.show_session().encode("ascii"), self.storages["E"]), 8)
 
     def fill(self, name, octet):
         self.storages[name][:] = bytes([octet]) * SIZES[name]
@@ -76,6 +80,18 @@ class Program:
 
     def show_records(self):
         return "L" + "".join(record_text(record) for record in self.records)
+
+    def set_session(self, *fields):
+        self.session = [record_of(*fields)]
+        return "OK"
+
+    def show_session(self):
+        return "D" + record_text(self.session[device_end.SESSION])
+
+    def set_own_uuid(self, octets):
+        malformed_if(len(octets) > LONGEST_OWN_UUID)
+        self.own_uuid = octets
+        return "OK"
 
     def set_transfer(self, *fields):
         self.transfer = transfer_of(*fields)
@@ -114,23 +130,28 @@ class Program:
         return length
 
     def receive(self, length, octets):
-        answer = station.receive(self.records, self.storages["A"], self.lent("A", length), octets)
-        if answer[0] == "delivered":
-            return "D" + digits_of(answer[1], 4) + digits_of(answer[2], 2)
-        if answer[0] == "closed":
-            return "C" + digits_of(answer[1], 2)
-        return RECEIVED[answer[0]]
+        return received_text(station.receive(self.records, self.storages["A"], self.lent("A", length), octets))
 
     def local_open(self, socket, link_id):
         station.local_open(self.records, socket, link_id)
         return "OK"
 
     def local_send(self, socket, length):
-        number, last_segment = station.local_send(self.records, socket, length)
-        return "S" + digits_of(number, 2) + digits_of(last_segment, 2)
+        return sent_text(*station.local_send(self.records, socket, length))
 
     def local_close(self, socket):
         station.local_close(self.records, socket)
+        return "OK"
+
+    def device_receive(self, length, octets):
+        area = self.storages["E"]
+        return received_text(device_end.receive(self.session, self.own_uuid, area, self.lent("E", length), octets))
+
+    def device_send(self, length):
+        return sent_text(*device_end.local_send(self.session, length))
+
+    def device_close(self):
+        device_end.local_close(self.session)
         return "OK"
 
     def writer(self, write, length, *arguments):
@@ -202,6 +223,18 @@ class Program:
         return "K" + digits_of(report, 2)
 
 
+def received_text(answer):
+    if answer[0] == "delivered":
+        return "D" + digits_of(answer[1], 4) + digits_of(answer[2], 2)
+    if answer[0] == "closed":
+        return "C" + digits_of(answer[1], 2)
+    return RECEIVED[answer[0]]
+
+
+def sent_text(number, last_segment):
+    return "S" + digits_of(number, 2) + digits_of(last_segment, 2)
+
+
 def writer_of(write):
     return lambda program, *arguments: program.writer(write, *arguments)
 
@@ -233,7 +266,10 @@ SET_AND_SHOW = {
     "KD": ("", Program.show_key_state),
     "VS": ("place:4 octets", Program.set_view),
     "VD": ("", Program.show_view),
-    **storage_operations("A"), **storage_operations("B"), **storage_operations("O"),
+    "DS": (RECORD, Program.set_session),
+    "DD": ("", Program.show_session),
+    "DU": ("octets", Program.set_own_uuid),
+    **storage_operations("A"), **storage_operations("B"), **storage_operations("O"), **storage_operations("E"),
 }
 
 CALLS = {
@@ -241,6 +277,9 @@ CALLS = {
     "OP": ("socket:2 Link-ID:8", Program.local_open),
     "SN": ("socket:2 length:4", Program.local_send),
     "CL": ("socket:2", Program.local_close),
+    "DR": ("lent:4 octets", Program.device_receive),
+    "DN": ("length:4", Program.device_send),
+    "DC": ("", Program.device_close),
     "WS": ("lent:4 Link-ID:8 number:2 index:2 octets", writer_of(frames.write_segment)),
     "WK": ("lent:4 Link-ID:8 number:2", writer_of(frames.write_acknowledgement)),
     "WO": ("lent:4 Link-ID:8 octets", writer_of(frames.write_open)),

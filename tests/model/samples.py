@@ -7,6 +7,11 @@ from model.proxy_filter import PLACES
 FILE = pathlib.Path(__file__).resolve().parent.parent / "samples" / "mesh_profile.json"
 SAMPLES = json.loads(FILE.read_text(encoding="ascii"))
 LINK_ID = SAMPLES["link_id"]
+# The operations of the two ends, by the words of the sample exchange; and what a control frame is answered.
+RECEIVING = {"provisioner": "RF2DE8", "device": "DR05BD"}
+SENDING = {"provisioner": "SN01", "device": "DN"}
+SHOWING = {"provisioner": "AD", "device": "ED"}
+RECEIVED = {"Link Open": "U", "Link Ack": "U", "Link Close": "C00"}
 
 # Document 01, "Figures at the edges": operation and answer, those marked (P) and those not.
 CHECKS = (("00", "30"), ("0000", "14"), ("0005", "82"), ("04", "37"), ("08", "3E"))
@@ -15,34 +20,47 @@ NINETEEN, TWENTY = "11" * 19, "11" * 20
 SEVENTEENTH = "01" + "".join("%04X" % address for address in range(1, PLACES + 1)), "010011"
 
 
-def step_operations(step):
-    """The calls that the station's host makes for one step of the sample exchange, with the answers that they must have."""
+def step_operations(end, step):
+    """The calls that an end's host makes for one step of the sample exchange, with the answers that they must have."""
+    return sent_operations(end, step) if step["from"] == end else received_operations(end, step)
+
+
+def sent_operations(end, step):
     what, number, message = step["what"], step["number"], step["message"]
     written = ["W%04X%s" % (len(frame) // 2, frame) for frame in step["frames"]]
     if what == "Link Open":
         return [("OP01" + LINK_ID, "OK"), ("WO1000" + LINK_ID + SAMPLES["device_uuid"], written[0])]
+    if what == "Link Ack":
+        return [("WA1000" + LINK_ID, written[0])]
     if what == "Link Close":
         return [("WC1000" + LINK_ID + "00", written[0]), ("CL01", "OK")]
-    if step["from"] == "device":
-        return device_operations(step)
     if message is None:
         return [("WK1000" + LINK_ID + number, written[0])]
-    send = "SN01%04X" % (len(message) // 2), "S%s%02X" % (number, len(written) - 1)
-    return [send] + [("WS1000%s%s%02X%s" % (LINK_ID, number, index, message), answer) for index, answer in enumerate(written)]
+    send = SENDING[end] + "%04X" % (len(message) // 2), "S%s%02X" % (number, len(written) - 1)
+    segments = ["WS1000%s%s%02X%s" % (LINK_ID, number, index, message) for index in range(len(written))]
+    return [send] + list(zip(segments, written))
 
 
-def device_operations(step):
-    received = ["RF2DE8" + frame for frame in step["frames"]]
+def received_operations(end, step):
+    received = [RECEIVING[end] + frame for frame in step["frames"]]
     if step["message"] is None:
-        return [(received[0], "U" if step["what"] == "Link Ack" else "A")]
+        return [(received[0], RECEIVED.get(step["what"], "A"))]
     length = len(step["message"]) // 2
     answers = ["K"] * (len(received) - 1) + ["D%04X%s" % (length, step["number"])]
-    shown = "AD0000%04X" % length, "H" + step["message"]
+    shown = SHOWING[end] + "0000%04X" % length, "H" + step["message"]
     return list(zip(received, answers)) + [shown, ("PR" + step["message"], None)]
 
 
-def exchange_operations():
-    return [pair for step in SAMPLES["steps"] for pair in step_operations(step)]
+def exchange_operations(end):
+    return [pair for step in SAMPLES["steps"] for pair in step_operations(end, step)]
+
+
+def station_operations():
+    return exchange_operations("provisioner")
+
+
+def device_operations():
+    return [("DU" + SAMPLES["device_uuid"], "OK")] + exchange_operations("device")
 
 
 def beacon_operations():
@@ -71,6 +89,6 @@ def figure_operations():
 def sample_operations():
     """All of them, each part from the start; an answer that isn't published is None."""
     operations = []
-    for part in (exchange_operations, beacon_operations, filter_operations, figure_operations):
+    for part in (station_operations, device_operations, beacon_operations, filter_operations, figure_operations):
         operations += [("ZZ", "OK")] + part() + [("ZH", None)]
     return operations

@@ -7,7 +7,7 @@ BLOCK = 256
 POWERS = [pow(FACTOR, count, MODULUS) for count in range(BLOCK + 1)]
 
 # The storages are longer than what is rightly lent, so that wrong lengths can be tried and octets outside can be watched.
-SIZES = {"A": 0x2E00, "B": 0x0600, "O": 0x1000}
+SIZES = {"A": 0x2E00, "B": 0x0600, "O": 0x1000, "E": 0x0600}
 
 
 @lru_cache(maxsize=16384)

@@ -6,6 +6,7 @@ mod filters;
 mod messages;
 mod operations;
 mod records;
+mod sessions;
 mod shapes;
 mod station_calls;
 mod storages;

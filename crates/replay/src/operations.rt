@@ -7,6 +7,8 @@ use crate::filters;
 use crate::messages;
 use crate::messages::Viewed;
 use crate::records;
+use crate::sessions;
+use crate::sessions::Session;
 use crate::shapes;
 use crate::station_calls;
 use crate::storages;
@@ -32,6 +34,7 @@ pub(super) struct Held {
     pub buffer: [u8; 0x0600],
     // Storage O.
     pub output: [u8; 0x1000],
+    pub session: Session,
 }
 
 // The state after an operation, and its answer.
@@ -40,7 +43,7 @@ pub(super) struct Step {
     pub answer: Answer,
 }
 
-// Document 01's start: all free and blank, disconnected, a new filter, phase 0 and index 0.
+// The start: all links free and blank, disconnected, a new filter, phase 0 and index 0.
 pub(super) fn at_start() -> Held {
     let iv = IvState {
         index: 0,
@@ -51,6 +54,7 @@ pub(super) fn at_start() -> Held {
     let filter = Filter::new();
     let security = SecurityState { phase: 0, iv: iv };
     let viewed = messages::no_view();
+    let session = sessions::at_start();
     Held {
         links: links,
         transfer: transfer,
@@ -59,6 +63,7 @@ pub(super) fn at_start() -> Held {
         viewed: viewed,
         buffer: [0u8; 0x0600],
         output: [0u8; 0x1000],
+        session: session,
     }
 }
 
@@ -94,13 +99,15 @@ fn hash_state(held: Held) -> u32 {
     hash_answer(h, messages::show_view(held.viewed))
 }
 
-// The hash of everything: the state, and storages A, B and O.
+// The hash of everything: the state and storages A, B and O, then the device's record and storage E.
 fn hash_all(held: Held, area: &[u8]) -> Answer {
     let buffer = held.buffer;
     let output = held.output;
     let mut h = script::hash(hash_state(held), area);
     h = script::hash(h, &buffer);
-    letter(b'H').long(script::hash(h, &output))
+    h = script::hash(h, &output);
+    h = hash_answer(h, sessions::show(held.session));
+    letter(b'H').long(sessions::hash_area(h, held.session))
 }
 
 // Everything as at start, or the hash of everything.
@@ -124,6 +131,8 @@ enum Subject {
     // Writing a frame or a proxy piece, with octets of the output lent.
     Writer,
     View,
+    // The device's end, with storage E.
+    Session,
     // All that is kept.
     Whole,
     // The link records, and the local calls of the station.
@@ -153,6 +162,8 @@ fn subject_of(first: u8, second: u8) -> Subject {
         b'A' => Subject::Area,
         b'B' => if_second(second, b'R', Subject::Security, Subject::Buffer),
         b'C' => if_second(second, b'K', Subject::Leaf, Subject::Links),
+        b'D' => Subject::Session,
+        b'E' => Subject::Session,
         b'F' => Subject::Filter,
         b'K' => Subject::Security,
         b'L' => Subject::Links,
@@ -195,6 +206,15 @@ fn perform_storage(held: Held, subject: Subject, second: u8, x: &[u8]) -> Step {
     after.buffer = buffer;
     after.output = output;
     keep(after, answer)
+}
+
+// The operations of the device's end.
+fn perform_session(held: Held, first: u8, second: u8, x: &[u8]) -> Step {
+    let step = sessions::perform(first, second, held.session, x);
+    let session = step.session;
+    let mut after = held;
+    after.session = session;
+    keep(after, step.answer)
 }
 
 // The operations on the state that lend no storage.
@@ -256,6 +276,7 @@ fn perform(held: Held, first: u8, second: u8, x: &[u8], area: &mut [u8]) -> Step
         Subject::Output => perform_storage(held, subject, second, x),
         Subject::Writer => perform_storage(held, subject, second, x),
         Subject::Piece => perform_storage(held, subject, second, x),
+        Subject::Session => perform_session(held, first, second, x),
         Subject::Frame => receive_frame(held, x, area),
         Subject::Whole => perform_whole(held, second, area),
         Subject::Leaf => keep(held, perform_leaf(first, x)),

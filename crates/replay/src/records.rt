@@ -4,6 +4,7 @@ use crate::answers::Answer;
 use crate::answers::done;
 use crate::answers::letter;
 use crate::answers::malformed;
+use crate::shapes::behind;
 use crate::station_calls;
 use links::HalfMessage;
 use links::HalfReceived;
@@ -38,31 +39,30 @@ fn state_of(octet: u8) -> LinkState {
 }
 
 fn last_of(x: &[u8]) -> LastDelivered {
-    if octet_at(x, 8) == 0 {
+    if octet_at(x, 7) == 0 {
         return LastDelivered::Nothing;
     }
-    LastDelivered::Number(TransactionNumber(octet_at(x, 9)))
+    LastDelivered::Number(TransactionNumber(octet_at(x, 8)))
 }
 
 fn half_of(x: &[u8]) -> HalfReceived {
-    if octet_at(x, 10) == 0 {
+    if octet_at(x, 9) == 0 {
         return HalfReceived::Nothing;
     }
     HalfReceived::Message(HalfMessage {
-        number: TransactionNumber(octet_at(x, 11)),
-        length: read16(x, 12),
-        check: octet_at(x, 14),
-        marks: (read32(x, 15) as u64) * 4294967296 + (read32(x, 19) as u64),
+        number: TransactionNumber(octet_at(x, 10)),
+        length: read16(x, 11),
+        check: octet_at(x, 13),
+        marks: (read32(x, 14) as u64) * 4294967296 + (read32(x, 18) as u64),
     })
 }
 
-// The record behind a socket's octet.
-fn link_of(x: &[u8]) -> Link {
+pub(super) fn link_of(x: &[u8]) -> Link {
     Link {
-        state: state_of(octet_at(x, 1)),
-        id: read32(x, 2),
-        next: TransactionNumber(octet_at(x, 6)),
-        outstanding: octet_at(x, 7) == 1,
+        state: state_of(octet_at(x, 0)),
+        id: read32(x, 1),
+        next: TransactionNumber(octet_at(x, 5)),
+        outstanding: octet_at(x, 6) == 1,
         last: last_of(x),
         half: half_of(x),
     }
@@ -82,7 +82,7 @@ fn set(links: [Link; 8], x: &[u8]) -> Records {
     let mut after = links;
     let mut answer = malformed();
     if place < 8 {
-        after[place] = link_of(x);
+        after[place] = link_of(behind(x, 1));
         answer = done();
     }
     keep(after, answer)
@@ -119,7 +119,7 @@ fn put_half(before: Answer, half: HalfReceived) -> Answer {
     }
 }
 
-fn put_record(before: Answer, link: Link) -> Answer {
+pub(super) fn put_record(before: Answer, link: Link) -> Answer {
     let state = link.state;
     let last = link.last;
     let half = link.half;

@@ -21,6 +21,18 @@ fn fits_links(second: u8, count: usize) -> bool {
     }
 }
 
+fn fits_session(second: u8, count: usize) -> bool {
+    match second {
+        b'S' => count == 22,
+        b'D' => count == 0,
+        b'U' => count <= 0x20,
+        b'R' => 2 <= count,
+        b'N' => count == 2,
+        b'C' => count == 0,
+        _ => false,
+    }
+}
+
 fn fits_transfer(second: u8, count: usize) -> bool {
     match second {
         b'S' => count == 5,
@@ -84,6 +96,8 @@ fn fits(first: u8, second: u8, count: usize) -> bool {
         b'A' => fits_storage(second, count),
         b'B' => fits_storage(second, count) | ((second == b'R') & (3 <= count)),
         b'C' => (second == b'K') | ((second == b'L') & (count == 1)),
+        b'D' => fits_session(second, count),
+        b'E' => fits_storage(second, count),
         b'F' => fits_filter(second, count),
         b'K' => fits_security(second, count),
         b'L' => fits_links(second, count),
@@ -103,10 +117,16 @@ fn is_flag(x: &[u8], at: usize) -> bool {
     octet_at(x, at) <= 1
 }
 
+// Whether the use and the flags of a record are in their ranges.
+fn is_record(x: &[u8]) -> bool {
+    (octet_at(x, 0) <= 2) & is_flag(x, 6) & is_flag(x, 7) & is_flag(x, 9)
+}
+
 // Whether the uses and flags of a state that is set are in their ranges.
 fn is_state(first: u8, x: &[u8]) -> bool {
     match first {
-        b'L' => (octet_at(x, 1) <= 2) & is_flag(x, 7) & is_flag(x, 8) & is_flag(x, 10),
+        b'L' => is_record(behind(x, 1)),
+        b'D' => is_record(x),
         b'X' => is_flag(x, 0) & is_flag(x, 1),
         b'F' => is_flag(x, 0),
         b'K' => is_flag(x, 5),

@@ -27,7 +27,7 @@ fn letter_of(answered: Answered) -> u8 {
     }
 }
 
-fn answer_of(answered: Answered) -> Answer {
+pub(super) fn answer_of(answered: Answered) -> Answer {
     match answered {
         Answered::Refused(r) => refused(refusal_numbers::of_station(r)),
         Answered::Delivered { length, number } => letter(b'D').pair(length).octet(number.0),

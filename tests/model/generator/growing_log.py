@@ -3,7 +3,7 @@ from model.frames import SHORTEST_FRAME
 from model.generator.bad_records import LINK_IDS
 from model.generator.line_input import mixed_case
 from model.import_program import Import, form_of, log_lines
-from model.station import BLANK, OPENED, OPENING, find_link
+from model.links import OPENED, OPENING, PROVISIONER, find_link
 
 FRAMES_KEPT = 12
 
@@ -70,7 +70,7 @@ class GrowingLog:
     def record(self, link_id):
         """The record in use with this Link ID; a blank one if there is none."""
         index = find_link(self.program.records, link_id)
-        return BLANK if index is None else self.program.records[index]
+        return PROVISIONER.blank() if index is None else self.program.records[index]
 
     def device_number(self, link_id):
         """Mostly the one after the last delivered."""

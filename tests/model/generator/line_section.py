@@ -2,6 +2,7 @@
 from model.generator.filter_section import places
 from model.generator.bad_records import BAD_RECORDS, good_record
 from model.generator.script import labelled, operation
+from model.links import DEVICE, PROVISIONER
 from model.proxy_filter import PLACES, Filter
 from model.record_text import filter_text, record_text
 from model.replay import OPERATIONS
@@ -15,9 +16,11 @@ WRONG_CHARACTERS = ("a", "f", "g", "G", " ", ":", "@", "/", "`", "\r", "\x00", "
 SHOWN_COUNT = 0x0FA0
 DAMAGES = ("a character that is no digit", "one digit more", "one digit less", "nothing after the name", "a flag above 01")
 PAST = ("octets past 8,192 characters", "write past the end", "show past the end", "show too many", "lent too long",
-        "socket out of range", "use above 02", "view of too many octets", "read of no octets")
-WITHIN = ("octets up to 8,192 characters", "write up to the end", "write none", "show up to the end", "show the most", "show none",
-          "view of the most octets")
+        "socket out of range", "use above 02", "view of too many octets", "own UUID of too many octets",
+        "read of no octets")
+WITHIN = ("octets up to 8,192 characters", "write up to the end", "write none", "show up to the end", "show the most",
+          "show none", "view of the most octets", "own UUID of the most octets")
+STORAGES = "".join(SIZES)
 
 LABELS = [labelled("--", "?", label) for label in DAMAGES + PAST] + [labelled("--", "", label) for label in WITHIN]
 
@@ -30,8 +33,9 @@ class LineSection:
     def step(self):
         self.chance.weighted((
             (35, self.damaged), (10, self.no_name), (16, self.edge), (10, self.write), (12, self.show), (6, self.fill),
-            (10, self.set_record), (6, self.set_transfer), (6, self.set_filter), (6, self.set_key_state), (5, self.set_view),
-            (12, self.show_state), (1, self.start)))()
+            (10, self.set_record), (6, self.set_session), (3, self.set_own_uuid), (6, self.set_transfer),
+            (6, self.set_filter), (6, self.set_key_state), (5, self.set_view), (12, self.show_state),
+            (1, self.start)))()
 
     def malformed(self, line, label):
         """A malformed line changes nothing."""
@@ -94,7 +98,7 @@ class LineSection:
 
     def edge(self):
         label = self.script.in_turn("edge", PAST + WITHIN)
-        storage = self.chance.pick("ABO")
+        storage = self.chance.pick(STORAGES)
         size = SIZES[storage]
         if label.startswith("octets"):
             self.longest(label)
@@ -106,26 +110,31 @@ class LineSection:
             count = 0x600 + (1 if label == "view of too many octets" else 0)
             line = operation("VS", (self.chance.below(0x700), 4), self.chance.octets(count))
             (self.malformed if count > 0x600 else self.right)(line, label)
+        elif label == "own UUID of the most octets":
+            self.right(operation("DU", self.chance.octets(0x20)), label)
         else:
             self.malformed(self.edge_of_range(label), label)
 
     def edge_of_range(self, label):
         if label == "lent too long":
-            name, storage = self.chance.pick((("RF", "A"), ("XR", "B"), ("WA", "O"), ("WS", "O"), ("XW", "O"), ("WK", "O"),
-                                              ("WO", "O"), ("WC", "O")))
+            name, storage = self.chance.pick((("RF", "A"), ("DR", "E"), ("XR", "B"), ("WA", "O"), ("WS", "O"),
+                                              ("XW", "O"), ("WK", "O"), ("WO", "O"), ("WC", "O")))
             size = SIZES[storage]
             return name + digits_of(self.chance.pick((size + 1, 0xFFFF)), 4) + self.some_line(name)[6:]
         if label == "socket out of range":
             name = self.chance.pick(("LS", "LD"))
             return name + digits_of(self.chance.pick((0, 9, 0xFF)), 2) + ("0" * 44 if name == "LS" else "")
         if label == "use above 02":
-            return "LS" + digits_of(self.chance.between(1, 8), 2) + digits_of(self.chance.pick((3, 0xFF)), 2) + "0" * 42
+            name = self.chance.pick(("DS", "LS" + digits_of(self.chance.between(1, 8), 2)))
+            return name + digits_of(self.chance.pick((3, 0xFF)), 2) + "0" * 42
+        if label == "own UUID of too many octets":
+            return operation("DU", self.chance.octets(self.chance.pick((0x21, 0x22, 0x40))))
         return "VF0000"
 
     def longest(self, label):
         """The longest line, and one that is longer by two digits."""
         characters = LONGEST_LINE if "up to" in label else LONGEST_LINE + self.chance.pick((1, 2))
-        name = self.chance.pick(("PR", "CK", "FM")) if self.chance.happens(50) else "RF2DE8"
+        name = self.chance.pick(("PR", "CK", "FM", "RF2DE8", "DR05BD"))
         line = name + "5A" * ((characters - len(name)) // 2)
         line += "0" * (characters - len(line))
         (self.right if "up to" in label else self.malformed)(line, label)
@@ -156,34 +165,43 @@ class LineSection:
     # Setting and showing.
 
     def write(self):
-        storage = self.chance.pick("ABO")
+        storage = self.chance.pick(STORAGES)
         octets = self.chance.octets(self.chance.between(0, 30))
         place = self.chance.between(0, SIZES[storage] - len(octets))
         self.script.say(operation(storage + "W", (place, 4), octets))
         self.script.say(operation(storage + "D", (place, 4), (len(octets), 4)))
 
     def show(self):
-        storage = self.chance.pick("ABO")
+        storage = self.chance.pick(STORAGES)
         count = self.chance.between(0, 40)
         self.script.say(operation(storage + "D", (self.chance.between(0, SIZES[storage] - count), 4), (count, 4)))
         self.script.say(storage + "H")
 
     def fill(self):
-        self.script.say(operation(self.chance.pick("ABO") + "F", (self.chance.octet(), 2)))
+        self.script.say(operation(self.chance.pick(STORAGES) + "F", (self.chance.octet(), 2)))
 
     def set_record(self):
+        socket = digits_of(self.chance.between(1, 8), 2)
+        self.script.say("LS" + socket + self.record_text(PROVISIONER, self.script.program.records))
+        self.script.say("LD" + socket)
+
+    def set_session(self):
+        self.script.say("DS" + self.record_text(DEVICE, self.script.program.session))
+        self.script.say("DD")
+
+    def set_own_uuid(self):
+        """It is no part of any hash; what shows it is an Open."""
+        self.script.say(operation("DU", self.chance.octets(self.chance.pick((0, 1, 15, 16, 16, 16, 17, 32)))))
+        self.script.say("ZH")
+
+    def record_text(self, side, records):
         """Good, bad, or any digits at all: setting a state never refuses, and what is governed by a flag is dropped."""
-        socket = self.chance.between(1, 8)
-        records = self.script.program.records
         if self.chance.happens(30):
-            text = digits_of(self.chance.below(3), 2) + self.some_record()
-        elif self.chance.happens(50):
-            text = record_text(good_record(self.chance, records))
-        else:
-            record = BAD_RECORDS[self.chance.pick(list(BAD_RECORDS))](self.chance, records)
-            text = record_text(record or records[0])
-        self.script.say("LS" + digits_of(socket, 2) + text)
-        self.script.say("LD" + digits_of(socket, 2))
+            return digits_of(self.chance.below(3), 2) + self.some_record()
+        if self.chance.happens(50):
+            return record_text(good_record(self.chance, side, records))
+        kinds = BAD_RECORDS[side]
+        return record_text(kinds[self.chance.pick(list(kinds))](self.chance, side, records) or records[0])
 
     def some_record(self):
         octets = bytearray(self.chance.octets(21))
@@ -211,7 +229,7 @@ class LineSection:
 
     def show_state(self):
         record = operation("LD", (self.chance.between(1, 8), 2))
-        self.script.say(self.chance.pick(("LA", "XD", "FD", "KD", "VD", "AH", "BH", "OH", "ZH", record)))
+        self.script.say(self.chance.pick(("LA", "DD", "XD", "FD", "KD", "VD", "AH", "BH", "OH", "EH", "ZH", record)))
 
     def start(self):
         self.script.say("ZZ")

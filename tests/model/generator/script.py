@@ -8,7 +8,12 @@ from model.script_line import digits_of, hexadecimal
 
 RIGHT_AREA = 0x2DE8
 RIGHT_BUFFER = 0x05BD
+RIGHT_DEVICE_AREA = 0x05BD
 OUTPUT = 0x1000
+# What is looked at after a call, now and then.
+LOOKED_AT = ("LA", "XD", "FD", "KD", "VD", "AH", "BH", "OH")
+DEVICE_CALLS = ("DR", "DN", "DC")
+LOOKED_AT_OF_DEVICE = ("DD", "DD", "EH", "ED00000020", "ED05B00050", "LA")
 
 
 class Script:
@@ -43,14 +48,15 @@ class Script:
         if answer.startswith("!") or self.chance.happens(35):
             self.say("ZH")
         if self.chance.happens(12):
-            self.say(self.chance.pick(("LA", "XD", "FD", "KD", "VD", "AH", "BH", "OH")))
+            self.say(self.chance.pick(LOOKED_AT_OF_DEVICE if line[:2] in DEVICE_CALLS else LOOKED_AT))
         return answer
 
-    def order(self, wrong, right, before=None, after=None):
-        """The same call twice, first with something wrong besides; counts which answer stood before which."""
+    def order(self, wrong, right, before=None, after=None, label=None, expected=None):
+        """The same call twice, first with something wrong besides; counts which answer stood before which. The label is
+        that of the first."""
         for line in before or ():
             self.say(line)
-        first = case_of(wrong, self.call(wrong))
+        first = case_of(wrong, self.call(wrong, label, expected))
         for line in after or ():
             self.say(line)
         second = case_of(right, self.call(right))
@@ -58,6 +64,9 @@ class Script:
 
     def set_record(self, socket, record):
         return "LS" + digits_of(socket, 2) + record_text(record)
+
+    def set_session(self, record):
+        return "DS" + record_text(record)
 
     def text(self):
         return b"".join(line + b"\n" for line in self.lines)

@@ -2,19 +2,21 @@
 import pathlib
 
 from model import coverage
-from model.generator import (beacon_section, filter_section, line_section, provisioning_section, proxy_section, station_section,
-                             writer_section)
+from model.generator import (beacon_section, device_section, filter_section, line_section, provisioning_section,
+                             proxy_section, station_section, writer_section)
 from model.generator.chance import Chance
 from model.generator.script import Script
 from model.samples import sample_operations
 
 WORKED = pathlib.Path(__file__).resolve().parent.parent.parent / "scripts" / "worked.txt"
 
-# Section, seed and number of operations of the stored script.
-STORED = ((station_section.StationSection, 101, 20000), (writer_section.WriterSection, 102, 4000),
-          (provisioning_section.ProvisioningSection, 103, 6000), (proxy_section.ProxySection, 104, 8000),
-          (filter_section.FilterSection, 105, 6000), (beacon_section.BeaconSection, 106, 8000), (line_section.LineSection, 107, 5000))
-MODULES = (station_section, writer_section, provisioning_section, proxy_section, filter_section, beacon_section, line_section)
+# Section, seed and number of operations of the stored script; and how often a mixed one has the section.
+STORED = ((station_section.StationSection, 101, 20000, 6), (writer_section.WriterSection, 102, 4000, 1),
+          (provisioning_section.ProvisioningSection, 103, 6000, 1), (proxy_section.ProxySection, 104, 8000, 1),
+          (filter_section.FilterSection, 105, 6000, 1), (beacon_section.BeaconSection, 106, 8000, 1),
+          (device_section.DeviceSection, 109, 11000, 4), (line_section.LineSection, 107, 5000, 1))
+MODULES = (station_section, writer_section, provisioning_section, proxy_section, filter_section, beacon_section,
+           device_section, line_section)
 
 
 def worked_operations():
@@ -33,7 +35,7 @@ def stored_script():
     script = Script(None)
     for line, _ in worked_operations() + sample_operations():
         script.say(line)
-    for section, seed, count in STORED:
+    for section, seed, count, _ in STORED:
         script.chance = Chance(seed)
         script.say("ZZ")
         run(script, section(script), count)
@@ -49,12 +51,12 @@ def run(script, section, count):
 def mixed_script(seed, count):
     """Short runs of the sections in any order on one and the same state."""
     script = Script(Chance(seed))
-    sections = [section(script) for section, _, _ in STORED]
+    sections = [(weight, section(script)) for section, _, _, weight in STORED]
     while len(script.lines) < count:
-        section = script.chance.weighted(((6, sections[0]),) + tuple((1, other) for other in sections[1:]))
+        section = script.chance.weighted(sections)
         run(script, section, min(count - len(script.lines), script.chance.between(20, 200)))
         # What the malformed lines' section sets is mostly bad.
-        if section is sections[-1] or script.chance.happens(5):
+        if isinstance(section, line_section.LineSection) or script.chance.happens(5):
             script.say("ZZ")
     del script.lines[count:], script.answers[count:]
     return script

@@ -5,7 +5,7 @@ from model.generator.damage import DAMAGES, any_damage
 from model.generator.growing_log import GrowingLog
 from model.generator.messages import good_message
 from model.provisioning import CAPABILITIES, FIELD_LENGTHS
-from model.station import FREE, LAST_OF_OURS, OPENED, OPENING
+from model.links import FREE, OPENED, OPENING, PROVISIONER
 
 INVITE = 0
 # The messages that a provisioner sends: Invite, Start, Public Key, Confirmation, Random, Data.
@@ -153,8 +153,8 @@ class TrayFrames(GrowingLog):
         self.sent(cut(link_id, number, good_message(self.chance, self.chance.pick(STATION_MESSAGES)))[0])
 
     def other_number(self, number):
-        near = (number + self.chance.pick((0, -1, 1))) % (LAST_OF_OURS + 1)
-        return self.chance.weighted(((75, near), (8, LAST_OF_OURS), (8, number | 0x80), (9, self.chance.octet())))
+        near = (number + self.chance.pick((0, -1, 1))) % (PROVISIONER.last + 1)
+        return self.chance.weighted(((75, near), (8, PROVISIONER.last), (8, number | 0x80), (9, self.chance.octet())))
 
     def acknowledgement(self):
         """Of the number that is outstanding, of the one before or after, or of another."""
@@ -166,12 +166,12 @@ class TrayFrames(GrowingLog):
     def come_round(self):
         """Invites on one link until its numbers come round, and the last once more: 0x7F is not one less than 0x00."""
         link_id, number = self.link_id(OPENED), None
-        while number != LAST_OF_OURS and self.record(link_id).use == OPENED:
+        while number != PROVISIONER.last and self.record(link_id).use == OPENED:
             number = self.record(link_id).next_number
             self.sent(cut(link_id, number, good_message(self.chance, INVITE))[0])
             self.acknowledged(link_id, number)
-        self.sent(cut(link_id, LAST_OF_OURS, good_message(self.chance, INVITE))[0])
-        self.acknowledged(link_id, LAST_OF_OURS)
+        self.sent(cut(link_id, PROVISIONER.last, good_message(self.chance, INVITE))[0])
+        self.acknowledged(link_id, PROVISIONER.last)
 
     # Any frame, heard or sent.
 

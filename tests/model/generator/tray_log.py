@@ -5,7 +5,8 @@ from model.generator.example_tray import EMPTY, example_tray
 from model.generator.tray_frames import TrayFrames
 from model.generator.tray_lines import WRONG_LINES, comment, edge_lines, octet_lines, odd_line
 from model.import_program import log_lines
-from model.station import FREE, SOCKETS
+from model.links import FREE
+from model.station import SOCKETS
 
 SEED = 108
 RANDOM_LINES = 6000

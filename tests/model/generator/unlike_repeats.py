@@ -1,7 +1,7 @@
 """Frames that refusal 7 meets: of the half-received number, but unlike what was received."""
 from model.frames import (LONGEST_MESSAGE, START, frame_octets, last_segment_number, segment_frame, segment_length,
                           segment_place)
-from model.generator.device import changed_start, continuation
+from model.generator.sending import changed_start, continuation
 
 
 def changed(chance, octets):
@@ -13,12 +13,12 @@ def changed(chance, octets):
 class HalfReceived:
     """A half-received message as it stands in record and area."""
 
-    def __init__(self, chance, program, index):
+    def __init__(self, chance, record, index, area):
         self.chance = chance
-        self.record = program.records[index]
-        self.half = self.record.half
+        self.record = record
+        self.half = record.half
         base = index * LONGEST_MESSAGE
-        self.message = bytes(program.storages["A"][base:base + self.half.length])
+        self.message = bytes(area[base:base + self.half.length])
         self.last = last_segment_number(self.half.length)
 
     def start(self):

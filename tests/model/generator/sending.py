@@ -1,17 +1,15 @@
-"""The modules at the other end: the messages they are sending, as frames still to come and frames sent."""
+"""The other end of a link: the messages that it is sending, as frames still to come and frames sent."""
 from model.frames import CONTINUATION, START, cut, frame_octets
-from model.generator.bad_records import device_number
+from model.generator.bad_records import new_number
 
 
 class Sending:
     """A message on its way: its frames shuffled, some twice; now and then with a wrong check octet or a frame missing."""
 
-    def __init__(self, chance, link_id, last_delivered):
-        number = device_number(chance)
-        while number == last_delivered:
-            number = device_number(chance)
+    def __init__(self, chance, side, record):
+        number = new_number(chance, side, record.last_delivered)
         self.message = chance.octets(chance.message_length())
-        self.frames = cut(link_id, number, self.message)
+        self.frames = cut(record.link_id, number, self.message)
         if chance.happens(15):
             self.frames[0] = self.frames[0][:8] + bytes([chance.other_octet(self.frames[0][8])]) + self.frames[0][9:]
         self.coming = self.arranged(chance)

@@ -1,13 +1,21 @@
-"""Frames that mean something to the station as it stands, of every kind."""
-from model.frames import ACKNOWLEDGEMENT, CONTINUATION, CONTROL, frame_octets, segment_frame
-from model.generator.bad_records import LINK_IDS, device_number
+"""Frames that mean something to the links of one side as they stand, of every kind."""
+from model.frames import (ACK, ACKNOWLEDGEMENT, CLOSE, CONTINUATION, CONTROL, OPEN, UUID_LENGTH, frame_octets,
+                          segment_frame)
+from model.generator.bad_records import LINK_IDS, own_number, taken_number
 from model.generator.chance import EDGE_LENGTHS
-from model.generator.device import Sending
+from model.generator.sending import Sending
 from model.generator.unlike_repeats import UNLIKE, HalfReceived
-from model.station import OPENED, OPENING
+from model.links import OPENED, OPENING
+
+OTHER_HALF = 0x80
 
 
-class StationFrames:
+class LinkFrames:
+    """A section has its side, the storage of its area, and how often a control frame is an Open or an Ack."""
+    side = None
+    area = None
+    open_weight, ack_weight = 0, 0
+
     def __init__(self, script):
         self.script = script
         self.chance = script.chance
@@ -15,7 +23,8 @@ class StationFrames:
         self.delivered = []
 
     def records(self):
-        return self.script.program.records
+        """The link records as they stand."""
+        raise NotImplementedError
 
     def with_use(self, *uses):
         return [index for index, record in enumerate(self.records()) if record.use in uses]
@@ -28,7 +37,7 @@ class StationFrames:
         return self.chance.pick(LINK_IDS)
 
     def next_segment(self):
-        """The next frame of the message that some socket's module is sending; None if no link is open."""
+        """The next frame of the message that the other end of some link is sending; None if no link is open."""
         opened = self.with_use(OPENED) or self.with_use(OPENING)
         if not opened:
             return None
@@ -36,30 +45,40 @@ class StationFrames:
         record = self.records()[index]
         sending = self.sending.get(index)
         if sending is None or not sending.coming or sending.frames[0][:4] != record.link_id.to_bytes(4, "big"):
-            sending = Sending(self.chance, record.link_id, record.last_delivered)
+            sending = Sending(self.chance, self.side, record)
             self.sending[index] = sending
         return sending.next_frame()
 
     def control_frame(self):
-        """Ack mostly; the number octet is ignored on reading."""
+        """The number octet is ignored on reading."""
         link_id = self.some_link_id()
-        opcode = self.chance.weighted(((60, 1), (14, 2), (10, 0), (16, self.chance.pick((3, 4, 63, self.chance.between(3, 63))))))
-        count = {0: 16, 1: 0, 2: 1}.get(opcode, self.chance.below(24))
-        number = 0 if self.chance.happens(50) else self.chance.octet()
-        return frame_octets(link_id, number, CONTROL, opcode, self.chance.octets(count))
+        unknown = self.chance.pick((3, 4, 63, self.chance.between(3, 63)))
+        opcode = self.chance.weighted(((self.ack_weight, ACK), (14, CLOSE), (self.open_weight, OPEN), (16, unknown)))
+        count = {OPEN: UUID_LENGTH, ACK: 0, CLOSE: 1}.get(opcode, self.chance.below(24))
+        number = self.control_number()
+        return frame_octets(link_id, number, CONTROL, opcode, self.control_octets(opcode, count))
+
+    def control_number(self):
+        return 0 if self.chance.happens(50) else self.chance.octet()
+
+    def control_octets(self, _opcode, count):
+        return self.chance.octets(count)
 
     def acknowledgement_frame(self):
         link_id = self.some_link_id()
         numbers = [record.next_number for record in self.records() if record.link_id == link_id]
-        right = numbers[0] if numbers else 0
-        other = (right + self.chance.pick((1, 127, self.chance.below(128)))) % 128
-        number = self.chance.weighted(((60, right), (25, other), (10, right | 0x80), (5, self.chance.octet())))
+        right = numbers[0] if numbers else self.side.first
+        other = self.side.first + (right + self.chance.pick((1, 127, self.chance.below(128)))) % 128
+        number = self.chance.weighted(((60, right), (25, other), (10, right ^ OTHER_HALF), (5, self.chance.octet())))
         return frame_octets(link_id, number, ACKNOWLEDGEMENT, 0, b"")
 
     def half_received(self):
         """Some half-received message, or None."""
-        halves = [index for index, record in enumerate(self.records()) if record.use == OPENED and record.half is not None]
-        return HalfReceived(self.chance, self.script.program, self.chance.pick(halves)) if halves else None
+        halves = [index for index in self.with_use(OPENED) if self.records()[index].half is not None]
+        if not halves:
+            return None
+        index = self.chance.pick(halves)
+        return HalfReceived(self.chance, self.records()[index], index, self.script.program.storages[self.area])
 
     def again_frame(self):
         """A segment with a last delivered number, whatever it carries; or a frame of some message delivered before."""
@@ -74,16 +93,17 @@ class StationFrames:
         return frame_octets(record.link_id, record.last_delivered, CONTINUATION, self.chance.between(1, 63), octets)
 
     def other_half_segment(self):
-        """A segment numbered below 0x80."""
+        """A segment numbered as only this side does."""
         octets = self.chance.octets(self.chance.between(1, 23))
-        number = self.chance.pick((0x00, 0x7F, self.chance.below(0x80)))
+        number = own_number(self.chance, self.side)
         if self.chance.happens(50):
             return segment_frame(self.some_link_id(), number, 0, octets)
         return frame_octets(self.some_link_id(), number, CONTINUATION, self.chance.between(1, 63), octets)
 
     def stray_continuation(self):
         octets = self.chance.octets(self.chance.between(1, 23))
-        return frame_octets(self.some_link_id(), device_number(self.chance), CONTINUATION, self.chance.between(1, 63), octets)
+        link_id, number = self.some_link_id(), taken_number(self.chance, self.side)
+        return frame_octets(link_id, number, CONTINUATION, self.chance.between(1, 63), octets)
 
     def unlike_frame(self):
         half = self.half_received()
@@ -96,13 +116,15 @@ class StationFrames:
 
     def single_with_wrong_check(self):
         message = self.chance.octets(self.chance.between(1, 20))
-        frame = bytearray(segment_frame(self.some_link_id(), device_number(self.chance), 0, message))
+        frame = bytearray(segment_frame(self.some_link_id(), taken_number(self.chance, self.side), 0, message))
         frame[8] = self.chance.other_octet(frame[8])
         return bytes(frame)
 
+    def makers(self):
+        """What makes a frame, each with its weight."""
+        return ((20, self.next_segment), (15, self.control_frame), (15, self.acknowledgement_frame),
+                (10, self.repeat_frame), (10, self.unlike_frame), (10, self.again_frame), (8, self.other_half_segment),
+                (8, self.stray_continuation), (8, self.single_with_wrong_check))
+
     def any_frame(self):
-        make = self.chance.weighted((
-            (20, self.next_segment), (15, self.control_frame), (15, self.acknowledgement_frame), (10, self.repeat_frame),
-            (10, self.unlike_frame), (10, self.again_frame), (8, self.other_half_segment), (8, self.stray_continuation),
-            (8, self.single_with_wrong_check)))
-        return make() or self.control_frame()
+        return self.chance.weighted(self.makers())() or self.control_frame()
