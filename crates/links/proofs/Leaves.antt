@@ -36,7 +36,7 @@ use Rattle.links.specs.declared.Refusal.the-variants as R
 use Rattle.links.specs.declared.Answer.{Answer}
 use Rattle.links.specs.declared.Answer.the-variants as A
 use Rattle.links.proofs.Bad.{blank-said}
-use Rattle.links.proofs.Opens.{Opens, refuses, finds, begins, opens as openings}
+use Rattle.links.proofs.Opens.{Opens, refuses, finds, begins, openings}
 
 module _ (side : Side) (x : OneLink) where
   -- ---- a segment

@@ -33,7 +33,7 @@ pub right-sized : (end : End) (σ : Station) → isRight end σ ≡ true → Siz
 right-sized provisioner σ h = eqb-true (length (σ .area)) (1469 * length (σ .links)) h
 right-sized (device own) σ h =
     eqb-true (length (σ .area)) (1469 * length (σ .links))
-    (both-hold {a = eqb (length (σ .area)) (1469 * length (σ .links))} {b = eqb (length (σ .links)) 1 && isUuid own} h .0)
+    (both-hold {a = eqb (length (σ .area)) (1469 * length (σ .links))} h .0)
 
 pub sized-right : (σ : Station) → Sized σ → isRight provisioner σ ≡ true
 sized-right σ h = eq-eqb (length (σ .area)) (1469 * length (σ .links)) h

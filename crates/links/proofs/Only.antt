@@ -53,7 +53,7 @@ use Rattle.links.proofs.Lens.{right-sized, part-size, get-put, good-get
 use Rattle.links.proofs.Keep.{GoodMessage, message-out, open-out, good-as}
 use Rattle.links.proofs.Promises.{stepOf, by-step, placed, refuses, steps, does, stepped-keeps, received-at, after-count}
 use Rattle.links.proofs.Promises as Promise
-use Rattle.links.proofs.Opens.{Opens, finds, begins, opens}
+use Rattle.links.proofs.Opens.{Opens, finds, begins, openings}
 use Rattle.links.proofs.Opens as Opening
 use Rattle.links.proofs.Frames.{found-id, of-cut}
 use Rattle.links.proofs.Answers.{IsDelivered, delivered-told}
@@ -62,7 +62,7 @@ use Rattle.links.proofs.Sockets.{socketAt, is-socket}
 -- ---- an Open at a device's link leaves what is half-received, or drops it
 
 open-does : (own : List ℕ) (x : OneLink) (f : List ℕ) (o : Octets f) (id uuid : ℕ) {p : Parsed} → Link.Does x f o p (openStep own x f id uuid)
-open-does own x f o id uuid {p} = of (opens own x f id uuid)
+open-does own x f o id uuid {p} = of (openings own x f id uuid)
   where
     of : {q : Answer × OneLink} → Opens own x f id uuid q → Link.Does x f o p q
     of (Opening.refuses r n e) = rw e (keeps tt refl (kept-same (x .link)))

@@ -23,7 +23,7 @@ use Rattle.links.specs.Station.{Station, noLink, getLink, received, isFo
 use Rattle.links.specs.Segments.{OneLink}
 use Rattle.links.specs.Interleaving.{All}
 use Rattle.links.specs.Operations.{Operation, receiving, opening, sending, closing, operate, afterAll, Offered}
-use Rattle.links.specs.Demand2.{UsedUnder, opens as openWord, OpenedBy, IsOpen, Opened, OpenedSince}
+use Rattle.links.specs.Demand2.{UsedUnder, openWord, OpenedBy, IsOpen, Opened, OpenedSince}
 use Rattle.links.specs.declared.Side.{Side}
 use Rattle.links.specs.declared.Side.the-variants.{Provisioner, Device}
 use Rattle.links.specs.declared.LinkState.the-variants as S
@@ -33,7 +33,7 @@ use Rattle.links.specs.declared.Answer.the-variants as A
 use Rattle.links.proofs.Interleaving.{after-append, before-each-snoc}
 use Rattle.links.proofs.Lens.{InPlace, sameUse, unused}
 use Rattle.links.proofs.Local.{Calls, refusal, written, open-calls, send-after, close-after}
-use Rattle.links.proofs.Opens.{Opens, refuses, finds, begins, opens as openings}
+use Rattle.links.proofs.Opens.{Opens, refuses, finds, begins, openings}
 use Rattle.links.proofs.Promises.{by-step, frame-step-keeps, received-at}
 use Rattle.links.proofs.Sockets.{socketAt, place-below, socket-at}
 

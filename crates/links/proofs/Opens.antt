@@ -23,9 +23,9 @@ pub data Opens (own : List ℕ) (x : OneLink) (f : List ℕ) (id uuid : ℕ) (q 
   begins : part f uuid 16 ≡ own → inUse (x .link .state) ≡ false → q ≡ (A.Opened, setLink x (blankWith Device S.Open id)) → Opens own x f id uuid q
 
 module _ (own : List ℕ) (x : OneLink) (f : List ℕ) (id uuid : ℕ) where
-  pub opens : Opens own x f id uuid (openStep own x f id uuid)
+  pub openings : Opens own x f id uuid (openStep own x f id uuid)
   unfolding openStep
-  opens =
+  openings =
       cases (same (part f uuid 16) own)
       (λ e. rw e (cases (inUse (x .link .state))
       (λ u. rw u (cases (eqb (x .link .id) id) (λ q. rw q (finds refl)) (λ q. rw q (refuses R.Busy refl refl))))
@@ -34,7 +34,7 @@ module _ (own : List ℕ) (x : OneLink) (f : List ℕ) (id uuid : ℕ) where
 
   -- so what holds of the link, and of the one that it opens, holds afterwards
   pub open-holds : (H : OneLink → Type 0) → H x → (inUse (x .link .state) ≡ false → H (setLink x (blankWith Device S.Open id))) → H (openStep own x f id uuid .1)
-  open-holds H same opened = of opens
+  open-holds H same opened = of openings
     where
       of : {q : Answer × OneLink} → Opens own x f id uuid q → H (q .1)
       of (refuses r n e) = rw e same

@@ -175,9 +175,9 @@ frame-left (device own) σ f right g s at p r = of p r (at-device own f p r)
         rw (← z) (ap (λ (y : OneLink). putLink 0 y σ) (open-leaves own (getLink 0 σ) f))
     of p r (another d) = found-leaves (device own) σ f right g s (rw d at at) d p r
 
-placed : (end : End) (σ : Station) (f : List ℕ) → isRight end σ ≡ true → (s : ℕ) → placeFor end (σ .links) f ≡ At s → s < length (σ .links)
-placed provisioner σ f right s at = found-at (σ .links) (linkId f) s at .0
-placed (device own) σ f right s at =
+place-below : (end : End) (σ : Station) (f : List ℕ) → isRight end σ ≡ true → (s : ℕ) → placeFor end (σ .links) f ≡ At s → s < length (σ .links)
+place-below provisioner σ f right s at = found-at (σ .links) (linkId f) s at .0
+place-below (device own) σ f right s at =
     cases (isControl 0 f)
     (λ e. let q : At 0 ≡ At s = rw e at at in let z : 0 ≡ s = cc in omega (arith, right-one own σ right, z))
     (λ e. found-at (σ .links) (linkId f) s (rw e at at) .0)
@@ -187,8 +187,8 @@ unfolding received
 receiving-leaves end σ f right stateGood s at = rw (right, stateGood) (of (parsed f) (reads f))
   where
     of : (p : Parsed) → Reads f p → onFrame end σ f p .1 ≡ putLink s (leaves (sideOf end) (getLink s σ) f (onFrame end σ f p .0)) σ
-    of p (no-frame m) = unchanged end σ f right stateGood s (placed end σ f right s at)
-    of p (unknown m n) = unchanged end σ f right stateGood s (placed end σ f right s at)
+    of p (no-frame m) = unchanged end σ f right stateGood s (place-below end σ f right s at)
+    of p (unknown m n) = unchanged end σ f right stateGood s (place-below end σ f right s at)
     of p (frame m n r) = frame-left end σ f right stateGood s at p r
 
 -- ---- the local calls

@@ -146,16 +146,16 @@ pub record UsedUnder (id : ℕ) (x : OneLink) : Type 0 where
   pub hasId : x .link .id ≡ id
 
 -- the word of the answer by which an end's link comes into use: a local Open at the provisioner's, an Open frame at a device's
-abbrev pub opens : End → String
-opens provisioner = "done"
-opens (device own) = "opened"
+abbrev pub openWord : End → String
+openWord provisioner = "done"
+openWord (device own) = "opened"
 
 -- the operation c, so answered, gave socket s the Link ID under which it has been in use since
 pub record OpenedBy (end : End) (σ : Station) (s : Socket) (id : ℕ) (c : Operation) (operations : List Operation) : Type 0 where
   pub before : List Operation
   pub since : List Operation
   pub split : operations ≡ before ++ (c ∷ since)
-  pub done : told (operate end (afterAll end σ before) c .0) ≡ answered (opens end) []
+  pub done : told (operate end (afterAll end σ before) c .0) ≡ answered (openWord end) []
   pub held : BeforeEach (operate end) (λ τ. UsedUnder id (ofSocket s τ)) (afterAll end σ (before ++ (c ∷ []))) since
 
 -- octets that are an Open with a Link ID and a UUID

@@ -57,7 +57,7 @@ AllAmong fs gs = (f : List ℕ) → List·Memᴰ f fs → List·Memᴰ f gs
 
 -- ---- the start
 
--- the same in numbers: an open link with "no half-received message", and "one message of 1 to 1,469 octets under a device-side number that the link
+-- an open link with "no half-received message", and "one message of 1 to 1,469 octets under a device-side number that the link
 -- didn't deliver last"; at a device's end the number is the provisioner's
 pub record ReadyFor (side : Side) (l : Link) (m : Message) : Type 0 where
   pub isOpen : l .state ≡ S.Open
@@ -67,7 +67,7 @@ pub record ReadyFor (side : Side) (l : Link) (m : Message) : Type 0 where
   pub some-octets : 1 ≤ length (m .octets)
   pub few-octets : length (m .octets) ≤ 1469
 
--- and as the rules test it
+-- the same, as the rules test it
 pub record Ready (side : Side) (l : Link) (m : Message) : Type 0 where
   pub isOpen : l .state ≡ S.Open
   pub nothing : l .half ≡ H.Nothing

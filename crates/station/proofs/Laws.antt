@@ -21,7 +21,7 @@ use Rattle.links.specs.declared.Answer.the-variants as A
 use Rattle.links.proofs.Lens.{sized-right, found-at}
 use Rattle.link_steps.specs.Calls.{oneLink, linkReceived}
 use Rattle.link_steps.proofs.Laws.{received-at, received-nowhere}
-use Rattle.station.specs.Calls.{stationOf, receiving, stepOf, placeOf}
+use Rattle.station.specs.Calls.{stationOf, receiving, stepAt, placeOf}
 
 -- ---- the part that is lent
 
@@ -31,7 +31,7 @@ unfolding write
 back a at n ys e = rw (← e, drop-drop, ← (append-assoc (take at a) ys (drop (at + length ys) a)))
 
 -- a frame at a place, when the part is said by its length
-pub part-as : (link : Link) (area f : List ℕ) (s n : ℕ) → n ≡ 1469 → linkReceived Provisioner (oneLink link (take n (drop (1469 * s) area))) f ≡ stepOf link area f s
+pub part-as : (link : Link) (area f : List ℕ) (s n : ℕ) → n ≡ 1469 → linkReceived Provisioner (oneLink link (take n (drop (1469 * s) area))) f ≡ stepAt link area f s
 part-as link area f s n e = rw e
 
 -- ---- 11, 14, and the record that is found
@@ -56,7 +56,7 @@ module _ (links : List Link) (area f : List ℕ) (n : length links ≡ 8) where
   -- the record at the place that was found takes the step
   pub received-found : length area ≡ 11752 → good Provisioner links ≡ true → (found : Found) → find links (linkId f) ≡ found
       → let s = placeOf found in
-      let r = stepOf (getD links s noLink) area f s in
+      let r = stepAt (getD links s noLink) area f s in
       receiving links area f ≡ (r .0, stationOf (set links s (r .1 .link)) (write area (1469 * s) (r .1 .part)))
   unfolding getLink putLink
   received-found h g (At s) e = received-at provisioner (stationOf links area) f (area-right links area n h) g (λ _. refl) s (found-at links (linkId f) s e .0) e

@@ -26,8 +26,8 @@ abbrev pub receivedOf : Answer × Station → Received
 receivedOf r = record { links = r .1 .links; answer = r .0 }
 
 -- a frame at a link that has the part of place s of the area
-abbrev pub stepOf : Link → List ℕ → List ℕ → ℕ → Answer × OneLink
-stepOf link area f s = linkReceived Provisioner (oneLink link (part area (1469 * s) 1469)) f
+abbrev pub stepAt : Link → List ℕ → List ℕ → ℕ → Answer × OneLink
+stepAt link area f s = linkReceived Provisioner (oneLink link (part area (1469 * s) 1469)) f
 
 -- the place of the record that is found, or else the first
 abbrev pub placeOf : Found → ℕ

@@ -12,7 +12,7 @@ ghost use mathlib.Core.Path.{_≡_};
 ghost use lib.ListN.{length};
 ghost use Rattle.octets.specs.Parts.{write};
 ghost use Rattle.link_steps.specs.Calls.{steppedOf};
-ghost use Rattle.station.specs.Calls.{receiving, receivedOf, stepOf, placeOf};
+ghost use Rattle.station.specs.Calls.{receiving, receivedOf, stepAt, placeOf};
 
 // The octets of the area: those of a longest message for each socket.
 pub const AREA_LENGTH: usize = 8 * LONGEST_MESSAGE;
@@ -20,8 +20,8 @@ pub const AREA_LENGTH: usize = 8 * LONGEST_MESSAGE;
 // A frame for the link at a place, which is lent its socket's part of the area.
 fn step_at(link: Link, place: usize, area: &mut [u8], frame: &[u8]) -> Stepped
     requires { ⌜ (place < 8) × (length (now area) ≡ 11752) ⌝ }
-    ensures { λ r. ⌜ (r ≡ steppedOf (stepOf link (now (area .entry)) (now (frame .entry)) place))
-        × (now (area .exit) ≡ write (now (area .entry)) (1469 * place) (stepOf link (now (area .entry)) (now (frame .entry)) place .1 .part)) ⌝ }
+    ensures { λ r. ⌜ (r ≡ steppedOf (stepAt link (now (area .entry)) (now (frame .entry)) place))
+        × (now (area .exit) ≡ write (now (area .entry)) (1469 * place) (stepAt link (now (area .entry)) (now (frame .entry)) place .1 .part)) ⌝ }
 {
     let base = LONGEST_MESSAGE * place;
     link_steps::receive(
