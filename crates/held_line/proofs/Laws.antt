@@ -11,7 +11,8 @@ use borrow.Author.Tests.{le-leb, lt-ltb, ne-eqb, leb-true, leb-false}
 use Rattle.octets.proofs.Tests.{cases, both-hold}
 use Rattle.hex.specs.Hex.{valueOf, allDigits, octetsOf}
 use Rattle.hex.proofs.Laws.{length-octets}
-use Rattle.import_lines.specs.Lines.{isFrame, beginsOpening, plainStep, otherStep, sentLine, unheardStep, lineStep, lineArea}
+use Rattle.log_lines.specs.Lines.{isFrame, beginsOpening}
+use Rattle.import_lines.specs.Lines.{plainStep, otherStep, sentLine, unheardStep, lineStep, lineArea}
 use Rattle.import_tray.specs.declared.Tray.{Tray}
 use Rattle.import_lines.proofs.Laws.{long-frames, long-sent}
 use Rattle.held_line.specs.Held.{isDigit, fullAfter, heldAfter, heldFrom}

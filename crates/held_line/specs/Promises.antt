@@ -1,6 +1,5 @@
 -- What is promised of the holding of a line. The proofs are `proofs/Promises.antt`.
 use Prim.Native.Nat.{ℕ, _≤_}
-use mathlib.Core.Bool.{Bool}
 use mathlib.Core.List.{List, [], _++_}
 use mathlib.Core.Path.{_≡_}
 use lib.Dec.{ltb}

@@ -1,7 +1,7 @@
 -- Hexadecimal text: two digits an octet, the high half first. Characters are ASCII octets.
 use Prim.Native.Nat.{ℕ, _+_, _*_, _-_, _/_, _%_}
 use mathlib.Core.Bool.{Bool, true, _&&_, cond}
-use mathlib.Core.List.{List, [], _∷_}
+use mathlib.Core.List.{List, [], _∷_, _++_}
 use lib.Dec.{leb, eqb}
 use lib.ListN.{length}
 use Rattle.octets.specs.Parts.{write, within}
@@ -62,3 +62,7 @@ decodedOutput text output =
 -- an output with the digits of octets at a place; as it was where they don't fit
 unfoldable pub encodedOutput : List ℕ → List ℕ → ℕ → List ℕ
 encodedOutput octets output at = cond (within output at (2 * length octets)) (write output at (textOf octets)) output
+
+-- a line: its first characters, the digits of octets, and a newline
+unfoldable pub digitLine : List ℕ → List ℕ → List ℕ
+digitLine head octets = head ++ (textOf octets ++ (10 ∷ []))

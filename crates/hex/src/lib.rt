@@ -1,10 +1,12 @@
-// Hexadecimal digits to octets and back.
+// Hexadecimal digits to octets and back, and lines of them.
+use octets::Written;
 ghost use mathlib.Core.Path.{_≡_};
 ghost use mathlib.Core.Bool.{true};
 ghost use Prim.Native.Nat.{_+_, _*_, _/_, _%_, _≤_, _<_};
 ghost use lib.ListN.{length};
 ghost use Rattle.octets.specs.Parts.{write, within};
-ghost use Rattle.hex.specs.Hex.{valueOf, digitOf, allDigits, octetsOf, textOf, decodedOf, decodedOutput, encodedOutput};
+ghost use Rattle.octets.specs.Writing.{written, outputAfter};
+ghost use Rattle.hex.specs.Hex.{valueOf, digitOf, allDigits, octetsOf, textOf, decodedOf, decodedOutput, encodedOutput, digitLine};
 
 // What reading a text found.
 pub enum Decoded {
@@ -122,4 +124,26 @@ pub fn encode(octets: &[u8], output: &mut [u8], at: usize) -> bool
     }
     write_text(octets, output, at);
     true
+}
+
+// Writes a line at the start of the output: its first characters, the digits of octets in capitals, and a newline.
+pub fn write_line(head: &[u8], octets: &[u8], output: &mut [u8]) -> Written
+    ensures { λ r. ⌜ (r ≡ written true (digitLine (now (head .entry)) (now (octets .entry))) (now (output .entry)))
+        × (now (output .exit) ≡ outputAfter true (digitLine (now (head .entry)) (now (octets .entry))) (now (output .entry))) ⌝ }
+{
+    if output.len() < head.len() {
+        return Written::WrongArgument;
+    }
+    let room = output.len() - head.len();
+    if room < 1 {
+        return Written::WrongArgument;
+    }
+    if (room - 1) / 2 < octets.len() {
+        return Written::WrongArgument;
+    }
+    let end = head.len() + 2 * octets.len();
+    octet_parts::copy(output, 0, head, 0, head.len());
+    encode(octets, output, head.len());
+    output[end] = b'\n';
+    Written::Count(end + 1)
 }

@@ -1,23 +1,21 @@
 -- Laws of a line of a log: what the reading of its digits tells, and frames that are too long.
-use Prim.Native.Nat.{ℕ, _/_, _%_, _≤_, _<_}
+use Prim.Native.Nat.{ℕ, _/_, _≤_, _<_}
 use denote.Enum.Declared.{tagOf}
-use native.Mathlib.Nat.{zero-add}
 use native.Mathlib.Omega.{arith}
 use mathlib.Core.Bool.{true, false}
-use mathlib.Core.List.{List, [], _∷_, append-nil}
-use mathlib.Core.Path.{_≡_, refl, sym, ap, _∙_}
+use mathlib.Core.List.{List, [], _∷_}
+use mathlib.Core.Path.{_≡_, refl, ap}
 use types.Run.{OneOf, miss}
-use lib.Dec.{leb, eqb}
-use lib.ListN.{length, take, drop, getD, replicate, length-drop}
-use lib.Seq.{take-all}
-use borrow.Author.Tests.{le-leb, lt-leb, leb-true, leb-false, eqb-true}
-use Rattle.octets.specs.Numbers.{big32}
-use Rattle.octets.specs.Parts.{write}
-use Rattle.octets.proofs.Parts.{write-front, write-start}
+use lib.Dec.{leb}
+use lib.ListN.{length, take}
+use borrow.Author.Tests.{le-leb, lt-leb, leb-true, leb-false}
 use Rattle.octets.proofs.Tests.{cases, both-hold}
-use Rattle.hex.specs.Hex.{allDigits, isHexadecimal, octetsOf, decodedOf, decodedOutput}
+use Rattle.hex.specs.Hex.{isHexadecimal, octetsOf, decodedOf, decodedOutput}
 use Rattle.hex.specs.declared.Decoded.the-variants.{Octets, NotHexadecimal, TooLong}
 use Rattle.hex.proofs.Laws.{length-octets}
+use Rattle.hex.proofs.Readings.{read-none, read-long, read-octets, read-front}
+use Rattle.log_lines.specs.Lines.{isFrame, isOpening, socketIn, idIn, openingOf}
+use Rattle.log_lines.specs.declared.Opening.the-variants as G
 use Rattle.pb_adv.specs.Frame.{parsed}
 use Rattle.pb_adv.specs.declared.FrameRefusal.the-variants.{Malformed}
 use Rattle.pb_adv.specs.declared.Parsed.the-variants as P
@@ -34,51 +32,7 @@ use Rattle.import_frames.specs.Heard.{heardStep, heardArea}
 use Rattle.import_frames.specs.Sent.{sentStep}
 use Rattle.import_frames.specs.declared.Outcome.{Outcome}
 use Rattle.import_frames.specs.declared.Outcome.the-variants as O
-use Rattle.import_lines.specs.Lines.{isFrame, beginsOpening, isOpening, socketIn, idIn, openingOf, openedBy, openedStep, plainStep, otherStep, heldFrame}
-use Rattle.import_lines.specs.declared.Opening.the-variants as G
-
--- ---- what a reading into a room tells
-
-module _ (line room : List ℕ) where
-  -- no digits, or an odd number of them
-  pub read-none : decodedOf line room ≡ NotHexadecimal → isHexadecimal line ≡ false
-  unfolding decodedOf
-  read-none =
-      cases (isHexadecimal line)
-      (λ p. rw p (cases (leb (length line / 2) (length room))
-      (λ q. rw q (λ e. let z : _≡_ {A = ℕ} 0 1 = cc in absurd (omega arith)))
-      (λ q. rw q (λ e. let z : _≡_ {A = ℕ} 0 1 = cc in absurd (omega arith)))))
-      (λ p e. p)
-
-  -- more octets than the room has
-  pub read-long : decodedOf line room ≡ TooLong → (isHexadecimal line ≡ true) × (length room < length line / 2) × (decodedOutput line room ≡ room)
-  unfolding decodedOf decodedOutput
-  read-long =
-      cases (isHexadecimal line)
-      (λ p. rw p (cases (leb (length line / 2) (length room))
-      (λ q. rw q (λ e. let z : _≡_ {A = ℕ} 0 1 = cc in absurd (omega arith)))
-      (λ q. rw q (λ e. (refl, leb-false (length line / 2) (length room) q, refl)))))
-      (λ p. rw p (λ e. let z : _≡_ {A = ℕ} 0 1 = cc in absurd (omega arith)))
-
-  module _ {n : ℕ} where
-    pub read-octets : decodedOf line room ≡ Octets n → (isHexadecimal line ≡ true) × (n ≡ length line / 2) × (n ≤ length room)
-    unfolding decodedOf
-    read-octets =
-        cases (isHexadecimal line)
-        (λ p. rw p (cases (leb (length line / 2) (length room))
-        (λ q. rw q (λ e. let k : n ≡ length line / 2 = cc in (refl, k, omega (arith, leb-true (length line / 2) (length room) q))))
-        (λ q. rw q (λ e. let z : _≡_ {A = ℕ} 0 1 = cc in absurd (omega arith)))))
-        (λ p. rw p (λ e. let z : _≡_ {A = ℕ} 0 1 = cc in absurd (omega arith)))
-
-    pub read-output : decodedOf line room ≡ Octets n → decodedOutput line room ≡ write room 0 (octetsOf line)
-    unfolding decodedOutput
-    read-output e = let r = read-octets e in rw (r .0, le-leb (length line / 2) (length room) (omega arith))
-
-    pub read-front : decodedOf line room ≡ Octets n → (n ≡ length (octetsOf line)) × (take n (decodedOutput line room) ≡ octetsOf line)
-    read-front e =
-        let r = read-octets e in
-        let k : n ≡ length (octetsOf line) = r .1 ∙ sym (length-octets line) in
-        (k, rw (read-output e, k) (rw zero-add at (write-front room 0 (octetsOf line) (omega arith))))
+use Rattle.import_lines.specs.Lines.{openedBy, openedStep, plainStep, otherStep, heldFrame}
 
 -- ---- frames
 
@@ -187,43 +141,6 @@ module _ (line room : List ℕ) where
         rw (held-long p many) (heard .0, heard .1, long-sent tray number room (octetsOf line) (omega arith) long))
 
 -- ---- openings
-
-module _ (line : List ℕ) (begins : beginsOpening line ≡ true) where
-  pub begun-so : (length line ≡ 10) × (49 ≤ getD line 0 0) × (getD line 0 0 ≤ 56)
-  unfolding beginsOpening
-  begun-so =
-      let a = both-hold {a = eqb (length line) 10} begins in
-      let b = both-hold {a = leb 49 (getD line 0 0)} (a .1) in
-      let d = both-hold {a = leb (getD line 0 0) 56} (b .1) in
-      (eqb-true (length line) 10 (a .0), leb-true 49 (getD line 0 0) (b .0), leb-true (getD line 0 0) 56 (d .0))
-
-  digits-long : length (drop 2 line) ≡ 8
-  digits-long = omega (arith, length-drop 2 line, begun-so)
-
-  pub all-digits : take 8 (drop 2 line) ≡ drop 2 line
-  all-digits = take-all 8 (drop 2 line) (omega (arith, digits-long))
-
-  abbrev idRoom : List ℕ
-  idRoom = replicate 4 0
-
-  -- eight digits, or the line is no opening
-  pub opening-digits : {n : ℕ} → decodedOf (drop 2 line) idRoom ≡ Octets n
-      → openingOf line ≡ G.Opens (socketIn line) (big32 (decodedOutput (drop 2 line) idRoom) 0)
-  unfolding openingOf
-  opening-digits e =
-      let r = read-octets (drop 2 line) idRoom e in
-      let d = both-hold {a = eqb (length (drop 2 line) % 2) 0} (r .0) in
-      let four : length (octetsOf (drop 2 line)) ≡ 4 = omega (arith, length-octets (drop 2 line), digits-long) in
-      let out : decodedOutput (drop 2 line) idRoom ≡ octetsOf (drop 2 line) =
-      read-output (drop 2 line) idRoom e ∙ write-start idRoom (octetsOf (drop 2 line)) ∙ rw four (append-nil (octetsOf (drop 2 line))) in
-      rw (begins, d .1, out)
-
-  pub opening-wrong : ((n : ℕ) → decodedOf (drop 2 line) idRoom ≡ Octets n → ⊥) → openingOf line ≡ G.Nothing
-  unfolding openingOf decodedOf
-  opening-wrong h =
-      rw begins (cases (allDigits (drop 2 line))
-      (λ p. absurd (h 4 (rw (digits-long, p))))
-      (λ p. rw p))
 
 -- a line that is no frame, by what it says as an opening
 module _ (line : List ℕ) where

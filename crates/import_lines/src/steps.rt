@@ -1,6 +1,4 @@
 // The steps of a line, by its kind.
-use super::Opening;
-use super::openings::read_opening;
 use hex::Decoded;
 use import_frames::Outcome;
 use import_tray::Report;
@@ -9,6 +7,8 @@ use import_tray::Stock;
 use import_tray::Tray;
 use import_tray::refuse;
 use line_fields::Field;
+use log_lines::Opening;
+use log_lines::read_opening;
 use octets::octet_at;
 use stock_table::Origin;
 use transactions::Socket;
@@ -16,7 +16,8 @@ ghost use mathlib.Core.Bool.{true};
 ghost use mathlib.Core.Path.{_≡_};
 ghost use Prim.Native.Nat.{_≤_};
 ghost use lib.ListN.{length, take};
-ghost use Rattle.import_lines.specs.Lines.{isMarkedSent, openedBy, openedStep, wrongLine, plainStep, otherStep, sentLine, unheardStep, lineStep, lineArea, heldFrame};
+ghost use Rattle.log_lines.specs.Lines.{isMarkedSent};
+ghost use Rattle.import_lines.specs.Lines.{openedBy, openedStep, wrongLine, plainStep, otherStep, sentLine, unheardStep, lineStep, lineArea, heldFrame};
 
 // An argument that is wrong: a line of no form.
 fn refuse_line(tray: Tray, line: u64) -> Step

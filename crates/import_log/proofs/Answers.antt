@@ -44,7 +44,7 @@ use Rattle.import_tray.specs.declared.Tray.{Tray}
 use Rattle.import_tray.specs.declared.Step.{Step}
 use Rattle.import_messages.specs.Messages.{capabilitiesBy}
 use Rattle.import_frames.specs.Heard.{heardStep}
-use Rattle.import_lines.specs.Lines.{isFrame, isMarkedSent}
+use Rattle.log_lines.specs.Lines.{isFrame, isMarkedSent}
 use Rattle.import_log.specs.Logs.{Import, after, afterAll, atFirst, numberIn}
 use Rattle.import_log.specs.Records.{Opens, messageOrigin}
 use Rattle.import_log.specs.Answers.{Expects, Answering, Recorded, EveryAnswer, Leaves, FromTheStart}

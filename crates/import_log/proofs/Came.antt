@@ -30,7 +30,7 @@ use Rattle.links.proofs.Opened.{opened-since}
 use Rattle.links.proofs.Sockets.{socket-at}
 use Rattle.line_fields.specs.declared.Field.the-variants as F
 use Rattle.import_frames.specs.Origins.{frameOrigin}
-use Rattle.import_lines.specs.Lines.{isFrame}
+use Rattle.log_lines.specs.Lines.{isFrame}
 use Rattle.import_log.specs.Logs.{Import, after, afterAll, atFirst}
 use Rattle.import_log.specs.Records.{LatestOpening, messageOrigin, HeardIn}
 use Rattle.import_log.proofs.Operations.{operationsIn, operationsFrom, Does, hears, opens, sends, closes, nothing, does, stationIn, stations-after, frame-octets, all-append, lines-octets, at-start}

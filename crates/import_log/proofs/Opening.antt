@@ -22,7 +22,7 @@ use Rattle.links.specs.declared.Found.the-variants.{At}
 use Rattle.links.proofs.Lens.{find-at, good-out}
 use Rattle.links.proofs.Sockets.{place-below}
 use Rattle.import_tray.specs.declared.Step.{Step}
-use Rattle.import_lines.specs.Lines.{isFrame}
+use Rattle.log_lines.specs.Lines.{isFrame}
 use Rattle.import_log.specs.Logs.{Import, after}
 use Rattle.import_log.specs.Records.{Opens}
 use Rattle.import_log.proofs.Operations.{stationIn, heard-station, Right}

@@ -44,7 +44,8 @@ use Rattle.import_frames.specs.declared.Outcome.{Outcome}
 use Rattle.import_frames.specs.declared.Outcome.the-variants as O
 use Rattle.import_frames.specs.declared.Asked.{Asked}
 use Rattle.import_frames.specs.declared.Asked.the-variants as A
-use Rattle.import_lines.specs.Lines.{isFrame, isMarkedSent, isSent, beginsOpening, isOpening, isPassed, socketIn, idIn, openedBy, openedStep, plainStep, otherStep, sentLine, unheardStep, lineStep, lineArea}
+use Rattle.log_lines.specs.Lines.{isFrame, isMarkedSent, isSent, beginsOpening, isOpening, isPassed, socketIn, idIn}
+use Rattle.import_lines.specs.Lines.{openedBy, openedStep, plainStep, otherStep, sentLine, unheardStep, lineStep, lineArea}
 use Rattle.import_log.specs.Logs.{Import, after, afterAll, atFirst, numberIn}
 
 -- the digits of a frame

@@ -50,7 +50,8 @@ use Rattle.import_frames.specs.Sent.{localBy, sentBy, sentStep}
 use Rattle.import_frames.specs.declared.Outcome.the-variants as O
 use Rattle.import_frames.specs.declared.Asked.{Asked}
 use Rattle.import_frames.specs.declared.Asked.the-variants as Q
-use Rattle.import_lines.specs.Lines.{isFrame, isMarkedSent, isSent, beginsOpening, isOpening, isPassed, socketIn, idIn, wrongLine, openedStep, plainStep, otherStep, sentLine, unheardStep, lineStep}
+use Rattle.log_lines.specs.Lines.{isFrame, isMarkedSent, isSent, beginsOpening, isOpening, isPassed, socketIn, idIn}
+use Rattle.import_lines.specs.Lines.{wrongLine, openedStep, plainStep, otherStep, sentLine, unheardStep, lineStep}
 use Rattle.import_log.specs.Logs.{Import, reportIn, stepOf, numberIn}
 use Rattle.import_log.specs.Refusals.{linksIn, heardIn, frameHeard, frameSent, originIn, TellsRefusal, IsRepeat, acknowledgement, close, StartSent, EveryRefusal, NoRefusal, NoDelivery, askedBy, SentQuiet, asksNothing, sends, closes, IsQuiet, passed, opens, heard, repeats, sent, QuietLines}
 use Rattle.import_log.proofs.Operations.{opening-no-frame, opening-unmarked, frame-unmarked, opening-socket}

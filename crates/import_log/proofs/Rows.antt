@@ -49,7 +49,8 @@ use Rattle.import_frames.specs.declared.Outcome.{Outcome}
 use Rattle.import_frames.specs.declared.Outcome.the-variants as O
 use Rattle.import_frames.specs.declared.Asked.{Asked}
 use Rattle.import_frames.specs.declared.Asked.the-variants as Q
-use Rattle.import_lines.specs.Lines.{isFrame, isMarkedSent, isOpening, isPassed, socketIn, idIn, openedBy, openedStep, plainStep, otherStep, sentLine, unheardStep, lineStep}
+use Rattle.log_lines.specs.Lines.{isFrame, isMarkedSent, isOpening, isPassed, socketIn, idIn}
+use Rattle.import_lines.specs.Lines.{openedBy, openedStep, plainStep, otherStep, sentLine, unheardStep, lineStep}
 use Rattle.import_log.specs.Logs.{Import, reportIn, stepOf, after, afterAll, numberIn}
 use Rattle.import_log.specs.Records.{Opens}
 use Rattle.import_log.proofs.Operations.{stationIn, opening-no-frame, opening-unmarked}

@@ -36,7 +36,7 @@ use Rattle.import_tray.specs.declared.Stock.the-variants as K
 use Rattle.import_tray.specs.declared.Report.{Report}
 use Rattle.import_tray.specs.declared.Report.the-variants as R
 use Rattle.import_tray.specs.declared.Step.{Step}
-use Rattle.import_lines.specs.Lines.{isOpening, socketIn, idIn}
+use Rattle.log_lines.specs.Lines.{isOpening, socketIn, idIn}
 use Rattle.import_log.specs.Logs.{Import, after, afterAll, atFirst}
 use Rattle.import_log.specs.Records.{Opens, LatestOpening, isRecordWord, RecordsAt, RecordedSince}
 use Rattle.import_log.specs.Sockets.{NeverOpened, NoRecordSince, HasRecord, reportOf, SocketsTold}

@@ -29,7 +29,7 @@ use Rattle.stock_table.specs.Rows.{recordRow}
 use Rattle.import_tray.specs.Trays.{stockAt}
 use Rattle.import_tray.specs.declared.Stock.the-variants as K
 use Rattle.import_tray.specs.declared.Report.the-variants as R
-use Rattle.import_lines.specs.Lines.{isFrame, isSent}
+use Rattle.log_lines.specs.Lines.{isFrame, isSent}
 use Rattle.import_log.specs.Logs.{Import, reportIn, afterAll, atFirst, numberIn}
 use Rattle.import_log.specs.Records.{Opens, fieldsOf, messageOrigin}
 

@@ -29,7 +29,7 @@ use Rattle.stock_table.specs.declared.Row.{Row}
 use Rattle.import_tray.specs.declared.Report.the-variants as R
 use Rattle.import_messages.specs.Messages.{readingOf}
 use Rattle.import_messages.specs.declared.Reading.the-variants as G
-use Rattle.import_lines.specs.Lines.{isFrame, isOpening, socketIn, idIn}
+use Rattle.log_lines.specs.Lines.{isFrame, isOpening, socketIn, idIn}
 use Rattle.import_log.specs.Logs.{Import, reportIn, afterAll, atFirst, numberIn}
 
 -- ---- openings

@@ -38,7 +38,7 @@ use Rattle.import_frames.specs.Origins.{socketAt, frameOrigin}
 use Rattle.import_frames.specs.Sent.{sentOf}
 use Rattle.import_frames.specs.declared.Asked.{Asked}
 use Rattle.import_frames.specs.declared.Asked.the-variants as Q
-use Rattle.import_lines.specs.Lines.{isFrame, isSent, isOpening, isPassed, socketIn, idIn}
+use Rattle.log_lines.specs.Lines.{isFrame, isSent, isOpening, isPassed, socketIn, idIn}
 use Rattle.import_log.specs.Logs.{Import, reportIn, numberIn}
 use Rattle.import_log.specs.Records.{Opens}
 

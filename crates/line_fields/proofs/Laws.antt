@@ -1,22 +1,21 @@
 -- Laws of the lines: a text at the start of a room, decimal digits, and a line field by field.
-use Prim.Native.Nat.{ℕ, zero, suc, _+_, _*_, _-_, _/_, _%_, _^_, _≤_, _<_, min}
-use native.Mathlib.Nat.{zero-add, sub-zero, pow-zero, pow-succ', one-le-pow}
+use Prim.Native.Nat.{ℕ, zero, suc, _+_, _*_, _-_, _/_, _%_, _^_, _≤_, _<_}
+use native.Mathlib.Nat.{zero-add, pow-zero, pow-succ', one-le-pow}
 use native.Mathlib.Numerals.{add-one}
 use native.Mathlib.Omega.{arith}
-use mathlib.Core.Bool.{true, false, cond}
+use mathlib.Core.Bool.{cond}
 use mathlib.Core.List.{List, [], _∷_, _++_, map, append-assoc}
 use mathlib.Core.Path.{_≡_, refl, sym, ap, _∙_}
-use lib.Dec.{leb, eqb, ltb}
+use lib.Dec.{leb, eqb}
 use lib.ListN.{length, take, drop, getD, replicate, length-append, length-drop, drop-of-length-le}
-use lib.Seq.{drop-cons, take-length, take-all, length-take-le}
-use borrow.Author.Tests.{le-leb, lt-leb, lt-ltb, eq-eqb, ne-eqb, leb-true, leb-false, eqb-true, eqb-false}
-use Rattle.octets.specs.Parts.{part, write, copyFits, copied}
+use lib.Seq.{drop-cons, length-take-le}
+use borrow.Author.Tests.{le-leb, lt-ltb, ne-eqb, leb-true, leb-false}
+use Rattle.octets.specs.Parts.{part, write, copied}
 use Rattle.octets.proofs.Parts.{copied-part, write-front, write-length, write-next, write-nothing}
 use Rattle.octets.proofs.Tests.{cases}
 use Rattle.hex.specs.Hex.{textOf, encodedOutput}
 use Rattle.hex.proofs.Laws.{length-text}
 use Rattle.io.specs.Digits.{glyph, digits, Fewest}
-use Rattle.octets.specs.Writing.{outputAfter}
 use Rattle.line_fields.specs.Lines.{digitsUpTo, decimalOf, hexadecimalOf, fieldText, endBefore, lineOf, Holds}
 use Rattle.line_fields.specs.declared.Characters.{Characters}
 use Rattle.line_fields.specs.declared.Field.{Field}

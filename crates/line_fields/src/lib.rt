@@ -72,7 +72,8 @@ pub fn write_text(text: &[u8], output: &mut [u8]) -> Written
     }
 }
 
-fn decimal_text(value: u64) -> Characters
+// A number in decimal digits.
+pub fn decimal_text(value: u64) -> Characters
     ensures { λ r. ⌜ Holds r (decimalOf value) ⌝ }
 {
     let mut text = [0u8; 20];
@@ -83,23 +84,12 @@ fn decimal_text(value: u64) -> Characters
     }
 }
 
-fn four_octets(value: u32) -> [u8; 4]
-    ensures { λ r. ⌜ r ≡ octets32 value ⌝ }
-{
-    [
-        (value / 16777216) as u8,
-        (value / 65536 % 256) as u8,
-        (value / 256 % 256) as u8,
-        (value % 256) as u8,
-    ]
-}
-
 // The last octets of a number, so many of four.
 fn hexadecimal_text(value: u32, count: usize) -> Characters
     requires { ⌜ count ≤ 4 ⌝ }
     ensures { λ r. ⌜ Holds r (hexadecimalOf (drop (4 - count) (octets32 value))) ⌝ }
 {
-    let octets = four_octets(value);
+    let octets = octets::four_octets(value);
     let first = 4 - count;
     let mut text = [0u8; 20];
     text[0] = b'0';

@@ -4,3 +4,4 @@ pub mod Parts
 pub mod Cut
 pub mod Writing
 pub mod Loops
+pub mod Numbers

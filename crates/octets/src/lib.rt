@@ -2,7 +2,7 @@
 ghost use mathlib.Core.Path.{_≡_};
 ghost use Prim.Native.Nat.{_<_};
 ghost use lib.ListN.{getD};
-ghost use Rattle.octets.specs.Numbers.{big16, big32};
+ghost use Rattle.octets.specs.Numbers.{big16, big32, octets32};
 ghost use Rattle.octets.specs.Lengths.{isLength};
 
 // The answer of a writer to a lent output.
@@ -60,4 +60,16 @@ pub fn read32(octets: &[u8], at: usize) -> u32
     } else {
         0
     }
+}
+
+// A number in four octets.
+pub fn four_octets(value: u32) -> [u8; 4]
+    ensures { λ r. ⌜ r ≡ octets32 value ⌝ }
+{
+    [
+        (value / 16777216) as u8,
+        (value / 65536 % 256) as u8,
+        (value / 256 % 256) as u8,
+        (value % 256) as u8,
+    ]
 }

@@ -1,11 +1,11 @@
 -- The replay program's language (docs/REPLAY.md): lines of arguments, lines of answers, and the hash.
 use Prim.Native.Nat.{ℕ, _+_, _*_, _-_, _/_, _%_}
 use mathlib.Core.Bool.{Bool, true, _&&_, cond}
-use mathlib.Core.List.{List, [], _∷_, _++_}
+use mathlib.Core.List.{List, [], _∷_}
 use lib.Dec.{leb}
 use lib.ListN.{length, take}
 use Rattle.octets.specs.Parts.{part}
-use Rattle.hex.specs.Hex.{textOf, decodedOf, decodedOutput}
+use Rattle.hex.specs.Hex.{decodedOf, decodedOutput, digitLine}
 use Rattle.hex.specs.declared.Decoded.{Decoded}
 use Rattle.hex.specs.declared.Decoded.the-variants as D
 use Rattle.script.specs.declared.Arguments.{Arguments}
@@ -39,16 +39,12 @@ argumentsRead line output = cond (isLine line) (argumentsOf (decodedOf (behind l
 unfoldable pub argumentsAfter : List ℕ → List ℕ → List ℕ
 argumentsAfter line output = cond (isLine line) (decodedOutput (behind line) output) output
 
--- an answer: its first characters, the digits of octets, and a newline
-unfoldable pub answerLine : List ℕ → List ℕ → List ℕ
-answerLine head values = head ++ (textOf values ++ (10 ∷ []))
-
 -- `!NN`, `?`, `OK`, or a letter and octets
 unfoldable pub outcomeLine : Outcome → List ℕ → List ℕ
-outcomeLine (O.Values letter count) values = answerLine (letter ∷ []) (take count values)
-outcomeLine O.Done values = answerLine (79 ∷ 75 ∷ []) []
-outcomeLine (O.Refused n) values = answerLine (33 ∷ (48 + n / 10 % 10) ∷ (48 + n % 10) ∷ []) []
-outcomeLine O.Malformed values = answerLine (63 ∷ []) []
+outcomeLine (O.Values letter count) values = digitLine (letter ∷ []) (take count values)
+outcomeLine O.Done values = digitLine (79 ∷ 75 ∷ []) []
+outcomeLine (O.Refused n) values = digitLine (33 ∷ (48 + n / 10 % 10) ∷ (48 + n % 10) ∷ []) []
+outcomeLine O.Malformed values = digitLine (63 ∷ []) []
 
 -- "h := 1, then for each octet in order h := (h * 257 + octet) mod 4294967291"
 unfoldable pub hashStep : ℕ → ℕ → ℕ

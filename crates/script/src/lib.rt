@@ -8,7 +8,8 @@ ghost use mathlib.Core.List.{[], _∷_};
 ghost use Prim.Native.Nat.{_+_, _/_, _%_, _≤_};
 ghost use lib.ListN.{length, take};
 ghost use Rattle.octets.specs.Writing.{written, outputAfter};
-ghost use Rattle.script.specs.Script.{capitals, isLine, argumentsOf, argumentsRead, argumentsAfter, answerLine, outcomeLine, hashStep, hashFrom};
+ghost use Rattle.hex.specs.Hex.{digitLine};
+ghost use Rattle.script.specs.Script.{capitals, isLine, argumentsOf, argumentsRead, argumentsAfter, outcomeLine, hashStep, hashFrom};
 
 // The longest line, its newline left out.
 pub const LONGEST: usize = 8192;
@@ -79,45 +80,23 @@ pub fn read_arguments(line: &[u8], output: &mut [u8]) -> Arguments
     Arguments::Malformed
 }
 
-// The first characters of an answer, the digits of octets, and a newline.
-fn write_answer(head: &[u8], values: &[u8], output: &mut [u8]) -> Written
-    ensures { λ r. ⌜ (r ≡ written true (answerLine (now (head .entry)) (now (values .entry))) (now (output .entry)))
-        × (now (output .exit) ≡ outputAfter true (answerLine (now (head .entry)) (now (values .entry))) (now (output .entry))) ⌝ }
-{
-    if output.len() < head.len() {
-        return Written::WrongArgument;
-    }
-    let room = output.len() - head.len();
-    if room < 1 {
-        return Written::WrongArgument;
-    }
-    if (room - 1) / 2 < values.len() {
-        return Written::WrongArgument;
-    }
-    let end = head.len() + 2 * values.len();
-    octet_parts::copy(output, 0, head, 0, head.len());
-    hex::encode(values, output, head.len());
-    output[end] = b'\n';
-    Written::Count(end + 1)
-}
-
 // A letter, and so many octets from the start of the values.
 fn write_values(letter: u8, values: &[u8], count: usize, output: &mut [u8]) -> Written
-    ensures { λ r. ⌜ (r ≡ written true (answerLine (letter ∷ []) (take count (now (values .entry)))) (now (output .entry)))
-        × (now (output .exit) ≡ outputAfter true (answerLine (letter ∷ []) (take count (now (values .entry)))) (now (output .entry))) ⌝ }
+    ensures { λ r. ⌜ (r ≡ written true (digitLine (letter ∷ []) (take count (now (values .entry)))) (now (output .entry)))
+        × (now (output .exit) ≡ outputAfter true (digitLine (letter ∷ []) (take count (now (values .entry)))) (now (output .entry))) ⌝ }
 {
     if values.len() < count {
-        return write_answer(&[letter], values, output);
+        return hex::write_line(&[letter], values, output);
     }
-    write_answer(&[letter], &values[0..count], output)
+    hex::write_line(&[letter], &values[0..count], output)
 }
 
 // A refusal by its number.
 fn write_refusal(n: u8, output: &mut [u8]) -> Written
-    ensures { λ r. ⌜ (r ≡ written true (answerLine (33 ∷ (48 + n / 10 % 10) ∷ (48 + n % 10) ∷ []) []) (now (output .entry)))
-        × (now (output .exit) ≡ outputAfter true (answerLine (33 ∷ (48 + n / 10 % 10) ∷ (48 + n % 10) ∷ []) []) (now (output .entry))) ⌝ }
+    ensures { λ r. ⌜ (r ≡ written true (digitLine (33 ∷ (48 + n / 10 % 10) ∷ (48 + n % 10) ∷ []) []) (now (output .entry)))
+        × (now (output .exit) ≡ outputAfter true (digitLine (33 ∷ (48 + n / 10 % 10) ∷ (48 + n % 10) ∷ []) []) (now (output .entry))) ⌝ }
 {
-    write_answer(&[b'!', 48 + n / 10 % 10, 48 + n % 10], b"", output)
+    hex::write_line(&[b'!', 48 + n / 10 % 10, 48 + n % 10], b"", output)
 }
 
 // The line of an answer.
@@ -127,9 +106,9 @@ pub fn write_outcome(outcome: Outcome, values: &[u8], output: &mut [u8]) -> Writ
 {
     match outcome {
         Outcome::Values { letter, count } => write_values(letter, values, count, output),
-        Outcome::Done => write_answer(b"OK", b"", output),
+        Outcome::Done => hex::write_line(b"OK", b"", output),
         Outcome::Refused(n) => write_refusal(n, output),
-        Outcome::Malformed => write_answer(b"?", b"", output),
+        Outcome::Malformed => hex::write_line(b"?", b"", output),
     }
 }
 

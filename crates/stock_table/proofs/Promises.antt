@@ -8,6 +8,7 @@ use lib.Dec.{leb, eqb}
 use lib.ListN.{length, drop, getD}
 use borrow.Author.Tests.{leb-true, leb-false, eqb-true, ne-eqb}
 use Rattle.octets.specs.Numbers.{Octets, big16, octets16, octets32}
+use Rattle.octets.proofs.Numbers.{four-octets, number-back}
 use Rattle.octets.specs.Parts.{same}
 use Rattle.octets.proofs.Tests.{cases, both-hold, holds-both}
 use Rattle.hex.specs.Hex.{digitOf, textOf, octetsOf}
@@ -290,18 +291,8 @@ two-octets : (m : List ℕ) (i j : ℕ) → Octets m → Octets (getD m i 0 ∷ 
 two-octets m i j o zero = o i
 two-octets m i j o (suc k) = one-octet (getD m j 0) (o j) k
 
-four-octets : (n : ℕ) → n < 4294967296 → Octets (octets32 n)
-four-octets n h zero = omega arith
-four-octets n h (suc zero) = omega arith
-four-octets n h (suc (suc zero)) = omega arith
-four-octets n h (suc (suc (suc zero))) = omega arith
-four-octets n h (suc (suc (suc (suc i)))) = omega arith
-
 octet-same : (n k : ℕ) → n < 256 → k < 256 → hexadecimalOf (n ∷ []) ≡ hexadecimalOf (k ∷ []) → n ≡ k
 octet-same n k p q h = at (hexadecimal-same (n ∷ []) (k ∷ []) (one-octet n p) (one-octet k q) h) 0
-
-number-back : (n : ℕ) → (n / 16777216 * 256 + n / 65536 % 256) * 65536 + (n / 256 % 256 * 256 + n % 256) ≡ n
-number-back n = omega arith
 
 number-same : (n k : ℕ) → n < 4294967296 → k < 4294967296 → hexadecimalOf (octets32 n) ≡ hexadecimalOf (octets32 k) → n ≡ k
 number-same n k p q h =

@@ -1,9 +1,7 @@
 use native.Mathlib.Omega.{arith}
 use mathlib.Core.Path.{refl}
 use lib.ListN.{length}
-use lib.Dec.{eqb, leb}
 use borrow.Author.Tests.{eq-eqb, ne-eqb, le-leb, lt-leb}
-use Rattle.octets.proofs.Tests.{cases}
 use Rattle.held_line.specs.Held.{countAfter, bufferAfter}
 use borrow.Author.Needs.{needs}
 use Rattle.held_line.proofs.hold.Statement.{statement}

@@ -12,14 +12,14 @@ write-values-requires c κs = search needs
 enum-told : tie.Need-enum-told
 enum-told c = search needs
 
-slice-aggregate-write-answer : tie.Need-slice-aggregate-write-answer
-slice-aggregate-write-answer c = search needs
+slice-aggregate-write-line : tie.Need-slice-aggregate-write-line
+slice-aggregate-write-line c = search needs
 
-slice-aggregate-write-answer-2 : tie.Need-slice-aggregate-write-answer-2
-slice-aggregate-write-answer-2 c = search needs
+slice-aggregate-write-line-2 : tie.Need-slice-aggregate-write-line-2
+slice-aggregate-write-line-2 c = search needs
 
-write-answer-requires : tie.Need-write-answer-requires
-write-answer-requires c κs = search needs
+write-line-requires : tie.Need-write-line-requires
+write-line-requires c κs = search needs
 
 enum-known-outcome-2 : tie.Need-enum-known-outcome-2
 enum-known-outcome-2 c = search needs
@@ -30,14 +30,14 @@ write-refusal-requires c κs = search needs
 enum-told-2 : tie.Need-enum-told-2
 enum-told-2 c = search needs
 
-slice-aggregate-write-answer-3 : tie.Need-slice-aggregate-write-answer-3
-slice-aggregate-write-answer-3 c = search needs
+slice-aggregate-write-line-3 : tie.Need-slice-aggregate-write-line-3
+slice-aggregate-write-line-3 c = search needs
 
-slice-aggregate-write-answer-4 : tie.Need-slice-aggregate-write-answer-4
-slice-aggregate-write-answer-4 c = search needs
+slice-aggregate-write-line-4 : tie.Need-slice-aggregate-write-line-4
+slice-aggregate-write-line-4 c = search needs
 
-write-answer-requires-2 : tie.Need-write-answer-requires-2
-write-answer-requires-2 c κs = search needs
+write-line-requires-2 : tie.Need-write-line-requires-2
+write-line-requires-2 c κs = search needs
 
 same-length : tie.Need-same-length
 same-length c = search needs
@@ -51,7 +51,7 @@ same-length-2 c = search needs
 
 returns-2 : tie.Need-returns-2
 unfolding outcomeLine
-returns-2 c = let w = c .before .before .write-answer in rw (c .before .before .before .before .before .before .enum-told .given .1) (w .ensures .0, w .ensures .1)
+returns-2 c = let w = c .before .before .write-line in rw (c .before .before .before .before .before .before .enum-told .given .1) (w .ensures .0, w .ensures .1)
 
 same-length-3 : tie.Need-same-length-3
 same-length-3 c = search needs
@@ -65,7 +65,7 @@ same-length-4 c = search needs
 
 returns-4 : tie.Need-returns-4
 unfolding outcomeLine
-returns-4 c = let w = c .before .before .write-answer2 in rw (c .before .before .before .before .before .before .enum-told2 .given .1) (w .ensures .0, w .ensures .1)
+returns-4 c = let w = c .before .before .write-line2 in rw (c .before .before .before .before .before .before .enum-told2 .given .1) (w .ensures .0, w .ensures .1)
 
 pub write-outcome-spec : {M : Type 1} → statement M
 write-outcome-spec =
@@ -74,15 +74,15 @@ write-outcome-spec =
     enum-known-outcome
     write-values-requires
     enum-told
-    slice-aggregate-write-answer
-    slice-aggregate-write-answer-2
-    write-answer-requires
+    slice-aggregate-write-line
+    slice-aggregate-write-line-2
+    write-line-requires
     enum-known-outcome-2
     write-refusal-requires
     enum-told-2
-    slice-aggregate-write-answer-3
-    slice-aggregate-write-answer-4
-    write-answer-requires-2
+    slice-aggregate-write-line-3
+    slice-aggregate-write-line-4
+    write-line-requires-2
     same-length
     returns
     same-length-2

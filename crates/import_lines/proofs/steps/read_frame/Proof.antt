@@ -1,7 +1,7 @@
-use lib.ListN.{length, take}
+use lib.ListN.{take}
 use lib.Seq.{take-all}
 use native.Mathlib.Omega.{arith}
-use mathlib.Core.Path.{_≡_, refl, sym, ap, _∙_}
+use mathlib.Core.Path.{refl, sym, ap, _∙_}
 use Rattle.import_lines.proofs.Laws.{held-octets, held-other, held-room}
 use borrow.Author.Needs.{needs}
 use Rattle.import_lines.proofs.steps.read_frame.Statement.{statement}

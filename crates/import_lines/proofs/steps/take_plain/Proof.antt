@@ -1,5 +1,4 @@
 use borrow.Author.Tests.{eq-eqb, ne-eqb}
-use mathlib.Core.Path.{sym, _∙_}
 use Rattle.import_lines.specs.Lines.{plainStep}
 use borrow.Author.Needs.{needs}
 use Rattle.import_lines.proofs.steps.take_plain.Statement.{statement}

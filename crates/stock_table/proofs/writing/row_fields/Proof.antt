@@ -1,4 +1,3 @@
-use Rattle.stock_table.specs.Columns.{statedFields}
 use borrow.Author.Needs.{needs}
 use Rattle.stock_table.proofs.writing.row_fields.Statement.{statement}
 use Rattle.stock_table.proofs.writing.row_fields.Tie as tie

@@ -1,4 +1,3 @@
-use mathlib.Core.Path.{refl}
 use borrow.Author.Needs.{needs}
 use Rattle.stock_table.proofs.writing.stated_fields.Statement.{statement}
 use Rattle.stock_table.proofs.writing.stated_fields.Tie as tie

@@ -5,7 +5,7 @@ use octets::read32;
 use transactions::Socket;
 ghost use mathlib.Core.Bool.{true};
 ghost use mathlib.Core.Path.{_≡_};
-ghost use Rattle.import_lines.specs.Lines.{beginsOpening, openingOf};
+ghost use Rattle.log_lines.specs.Lines.{beginsOpening, openingOf};
 
 // Ten characters that begin with a socket digit and a space.
 fn begins_opening(line: &[u8]) -> bool

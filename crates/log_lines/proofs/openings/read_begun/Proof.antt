@@ -5,10 +5,10 @@ use mathlib.Core.List.{[], _∷_}
 use mathlib.Core.Path.{sym, _∙_, subst}
 use types.Run.{OneOf, miss}
 use Rattle.hex.proofs.Decoded.{the-type}
-use Rattle.import_lines.proofs.Laws.{begun-so, all-digits, opening-digits, opening-wrong}
+use Rattle.log_lines.proofs.Laws.{begun-so, all-digits, opening-digits, opening-wrong}
 use borrow.Author.Needs.{needs}
-use Rattle.import_lines.proofs.openings.read_begun.Statement.{statement}
-use Rattle.import_lines.proofs.openings.read_begun.Tie as tie
+use Rattle.log_lines.proofs.openings.read_begun.Statement.{statement}
+use Rattle.log_lines.proofs.openings.read_begun.Tie as tie
 
 sub-decode : tie.Need-sub-decode
 sub-decode c = search needs

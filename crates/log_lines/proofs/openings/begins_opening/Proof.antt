@@ -1,8 +1,8 @@
 use Rattle.octets.proofs.Tests.{tests}
-use Rattle.import_lines.specs.Lines.{beginsOpening}
+use Rattle.log_lines.specs.Lines.{beginsOpening}
 use borrow.Author.Needs.{needs}
-use Rattle.import_lines.proofs.openings.begins_opening.Statement.{statement}
-use Rattle.import_lines.proofs.openings.begins_opening.Tie as tie
+use Rattle.log_lines.proofs.openings.begins_opening.Statement.{statement}
+use Rattle.log_lines.proofs.openings.begins_opening.Tie as tie
 
 returns : tie.Need-returns
 unfolding beginsOpening

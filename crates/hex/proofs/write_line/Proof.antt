@@ -1,15 +1,14 @@
 use borrow.Author.Needs.{needs}
-use mathlib.Core.Path.{_≡_, sym, ap, _∙_}
-use lib.ListN.{length, length-set}
+use lib.ListN.{length-set}
 use native.Mathlib.Omega.{arith}
-use Rattle.script.proofs.Laws.{answer-short, answer-count, answer-put}
-use Rattle.script.proofs.write_answer.Statement.{statement}
-use Rattle.script.proofs.write_answer.Tie as tie
+use Rattle.hex.proofs.Lines.{line-short, line-count, line-put}
+use Rattle.hex.proofs.write_line.Statement.{statement}
+use Rattle.hex.proofs.write_line.Tie as tie
 
 returns : tie.Need-returns
 returns c =
     let a = c .before .before .before .before .args in
-    answer-short (a .head .now) (a .values .now) (a .output .now) (omega arith)
+    line-short (a .head .now) (a .octets .now) (a .output .now) (omega arith)
 
 sub-room : tie.Need-sub-room
 sub-room c = search needs
@@ -17,12 +16,12 @@ sub-room c = search needs
 returns-2 : tie.Need-returns-2
 returns-2 c =
     let a = c .before .before .before .before .before .args in
-    answer-short (a .head .now) (a .values .now) (a .output .now) (omega arith)
+    line-short (a .head .now) (a .octets .now) (a .output .now) (omega arith)
 
 returns-3 : tie.Need-returns-3
 returns-3 c =
     let a = c .before .before .before .before .before .before .args in
-    answer-short (a .head .now) (a .values .now) (a .output .now) (omega arith)
+    line-short (a .head .now) (a .octets .now) (a .output .now) (omega arith)
 
 mul-end : tie.Need-mul-end
 mul-end c = search needs
@@ -48,13 +47,13 @@ same-length c = simp length-set (search needs)
 returns-4 : tie.Need-returns-4
 returns-4 c =
     let a = c .before .before .before .before .before .before .before .before .before .before .before .before .before .before .args in (
-      answer-count (a .head .now) (a .values .now) (a .output .now) (omega arith),
+      line-count (a .head .now) (a .octets .now) (a .output .now) (omega arith),
       rw (c .before .before .encode .ensures .1, c .before .before .before .before .before .before .copy .ensures .1)
-          (answer-put (a .head .now) (a .values .now) (a .output .now) (omega arith)),
+          (line-put (a .head .now) (a .octets .now) (a .output .now) (omega arith)),
     )
 
-pub write-answer-spec : {M : Type 1} → statement M
-write-answer-spec =
+pub write-line-spec : {M : Type 1} → statement M
+write-line-spec =
     tie.close
     (tie.spec
     returns

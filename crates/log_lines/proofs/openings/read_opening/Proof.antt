@@ -1,8 +1,8 @@
 use mathlib.Core.Path.{sym, _∙_}
-use Rattle.import_lines.specs.Lines.{openingOf}
+use Rattle.log_lines.specs.Lines.{openingOf}
 use borrow.Author.Needs.{needs}
-use Rattle.import_lines.proofs.openings.read_opening.Statement.{statement}
-use Rattle.import_lines.proofs.openings.read_opening.Tie as tie
+use Rattle.log_lines.proofs.openings.read_opening.Statement.{statement}
+use Rattle.log_lines.proofs.openings.read_opening.Tie as tie
 
 begins-opening-requires : tie.Need-begins-opening-requires
 begins-opening-requires c κs = search needs
