@@ -1,4 +1,4 @@
-"""Tests of the import program: small logs on one link, and the rows that they write, as docs/IMPORT.md has them."""
+"""Tests of the import program: small logs on one link, and the rows that they write, as docs/IMPORT.md has them; any log's rows by column."""
 from model.frames import cut
 from model.import_program import answer_log
 from model.script_line import hexadecimal
@@ -32,3 +32,9 @@ def missing_rows(*lines):
 def heard(number, message):
     """The only frame of a short message on the link."""
     return hexadecimal(cut(5, number, bytes.fromhex(message))[0])
+
+
+def table(log):
+    """Each row of a log's table, as its columns by name."""
+    names, *lines = [line.split(",") for line in answer_log(log).decode("ascii").split("\n")[:-1]]
+    return [dict(zip(names, line)) for line in lines]

@@ -3,7 +3,9 @@ import pathlib
 import re
 import unittest
 
+from model import lossy_channel, rehearsal
 from model.log_coverage import OUTCOMES
+from model.rehearsed_ends import UUID_FRONT
 
 TOP = pathlib.Path(__file__).resolve().parent.parent
 FOLDERS = (".", "docs", "tests", "tests/samples", "bench")
@@ -81,6 +83,13 @@ class Pages(unittest.TestCase):
         self.assertGreater(len(shown), 15)
         places = [worked.index(line) for line in shown]
         self.assertEqual(places, sorted(places))
+
+    def test_numbers_of_the_rehearsal(self):
+        """The page has the model's."""
+        page = text_of("docs/REHEARSAL.md")
+        for number in (rehearsal.TURNS, rehearsal.LONGEST_LINE, rehearsal.LARGEST_SEED, lossy_channel.MULTIPLIER, lossy_channel.MODULUS):
+            self.assertIn(" %s" % format(number, ","), page)
+        self.assertIn(UUID_FRONT.hex().upper(), page)
 
     def test_nothing_left_open(self):
         for page in PAGES:

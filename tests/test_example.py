@@ -4,20 +4,18 @@ import re
 import unittest
 from itertools import groupby
 
+from imported import table
 from model.frames import read_frame
 from model.generator.air import SENDING
 from model.generator.capture import capture_and_log, packets_of
 from model.generator.example_tray import EMPTY, PUBLISHED, SILENT, example_tray, healthy_tray
-from model.import_program import answer_log
 from model.samples import SAMPLES
 from model.script_line import hexadecimal
 from model.stock_table import FIELDS
 
 
 def rows_of(tray):
-    """Each row as its columns by name."""
-    names, *rows = [line.split(",") for line in answer_log(capture_and_log(tray)[1]).decode("ascii").split("\n")[:-1]]
-    return [dict(zip(names, row)) for row in rows]
+    return table(capture_and_log(tray)[1])
 
 
 def sockets(rows, what):

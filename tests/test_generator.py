@@ -9,19 +9,12 @@ from collections import Counter
 from model import coverage, log_coverage
 from model.generator.chance import Chance
 from model.generator.line_input import random_input
+from model.generator.rehearsals import random_tray
 from model.generator.scripts import mixed_script
 from model.generator.tray_log import random_log, stored_log
 from model.import_program import answer_log
 from model.replay import CALLS, answer_script
-
-TESTS = pathlib.Path(__file__).resolve().parent
-PROGRAM = """#!%s
-import sys
-sys.path.insert(0, %r)
-from model.%s import %s as answer
-text = answer(sys.stdin.buffer.read())
-sys.stdout.buffer.write(%s)
-"""
+from stand_in import TESTS, write_program
 
 
 class Seeds(unittest.TestCase):
@@ -35,6 +28,7 @@ class Seeds(unittest.TestCase):
     def test_other_inputs(self):
         self.assertEqual(random_input(Chance(1), 50), random_input(Chance(1), 50))
         self.assertEqual(random_log(Chance(1), 200), random_log(Chance(1), 200))
+        self.assertEqual(random_tray(Chance(1)), random_tray(Chance(1)))
 
     def test_a_refusal_is_followed_by_the_hash_of_everything(self):
         script = mixed_script(3, 3000)
@@ -78,23 +72,22 @@ class Comparison(unittest.TestCase):
     def compare(self, *changes):
         """The comparison's exit code and text, with programs that answer as the model does but for a change of their text."""
         programs = (("replay", "replay", "answer_script"), ("segment_lines", "line_program", "answer_lines"),
-                    ("import_capabilities", "import_program", "answer_log"))
+                    ("import_capabilities", "import_program", "answer_log"), ("rehearse_tray", "rehearsal", "rehearse"))
         with tempfile.TemporaryDirectory() as folder:
             options = []
             for (name, module, function), change in zip(programs, changes):
                 path = pathlib.Path(folder) / name
-                path.write_text(PROGRAM % (sys.executable, str(TESTS), module, function, change), encoding="ascii")
-                path.chmod(0o755)
+                write_program(path, module, function, change)
                 options += ["--" + name, str(path)]
             finished = subprocess.run([sys.executable, str(TESTS / "compare"), "1", "600"] + options, stdout=subprocess.PIPE, check=False)
         return finished.returncode, finished.stdout.decode("ascii")
 
     def test_equal(self):
-        self.assertEqual(self.compare("text", "text", "text")[0], 0)
+        self.assertEqual(self.compare("text", "text", "text", "text")[0], 0)
 
     def test_differences(self):
-        for changes in (("text.replace(b'!07', b'R')", "text", "text"), ("text", "text[:-1]", "text"), ("text", "text", "text + b'end\\n'")):
-            code, shown = self.compare(*changes)
+        for place, change in enumerate(("text.replace(b'!07', b'R')", "text[:-1]", "text + b'end\\n'", "text.replace(b'>', b'', 1)")):
+            code, shown = self.compare(*["text"] * place, change, *["text"] * (3 - place))
             self.assertEqual(code, 1)
             self.assertEqual(shown.count("differs"), 1)
 

@@ -5,7 +5,8 @@ usage: tests/vectors.py --check [NAME..]      whether the stored files are what 
        tests/vectors.py --write [NAME..]      writes them
        tests/vectors.py --coverage [NAME..]   how often the stored script and log meet each answer, row, refusal and case
 
-NAME is replay, segment_lines, import_capabilities or example; without any, all of them.
+NAME is replay, segment_lines, import_capabilities, rehearse_tray or example; without any, all of them. The trays and logs under
+tests/rehearsals are made with those of rehearse_tray.
 """
 import pathlib
 import sys
@@ -13,9 +14,10 @@ from collections import Counter
 from typing import NamedTuple
 
 from model import coverage, log_coverage
-from model.generator import capture, example_tray, line_input, scripts, tray_log
+from model.generator import capture, example_tray, line_input, rehearsals, scripts, tray_log
 from model.import_program import answer_log
 from model.line_program import answer_lines
+from model.rehearsal import rehearse
 
 TOP = pathlib.Path(__file__).resolve().parent.parent
 
@@ -46,6 +48,15 @@ def import_capabilities():
     return Vectors(of_program("import_capabilities", text, answer_log(text)), log_coverage.met(text), log_coverage.required())
 
 
+def rehearse_tray():
+    """The program's own tray and log, and those that are tests only."""
+    tray = rehearsals.stored_tray()
+    files = of_program("rehearse_tray", tray, rehearse(tray))
+    for name, text in rehearsals.stored_rehearsals().items():
+        files.update({"tests/rehearsals/%s.txt" % name: text, "tests/rehearsals/%s.log" % name: rehearse(text)})
+    return Vectors(files)
+
+
 def example():
     """The example tray as a capture, a log and a table; and the packets by which the way from a capture to a log is tested."""
     tray = example_tray.example_tray()
@@ -54,7 +65,8 @@ def example():
                     "example/tray.csv": answer_log(log), "tests/samples/packets.btsnoop": capture.packet_forms()})
 
 
-MAKERS = {"replay": replay, "segment_lines": segment_lines, "import_capabilities": import_capabilities, "example": example}
+MAKERS = {"replay": replay, "segment_lines": segment_lines, "import_capabilities": import_capabilities, "rehearse_tray": rehearse_tray,
+          "example": example}
 
 
 def stored(path):

@@ -8,9 +8,9 @@ from model.refusal import WRONG_ARGUMENT, Refusal, refuse_if
 from model.stock_table import FIELDS, HEADER, row_text
 
 DIGITS = b"((?:[0-9A-Fa-f]{2})+)"
+PASSED_OVER = (("comment", re.compile(b"#.*", re.DOTALL)), ("empty line", re.compile(b"")))
 # A line that has none of these forms is "other".
-FORMS = (("opening", re.compile(b"([1-8]) ([0-9A-Fa-f]{8})")), ("heard", re.compile(DIGITS)), ("sent", re.compile(b">" + DIGITS)),
-         ("comment", re.compile(b"#.*", re.DOTALL)), ("empty line", re.compile(b"")))
+FORMS = (("opening", re.compile(b"([1-8]) ([0-9A-Fa-f]{8})")), ("heard", re.compile(DIGITS)), ("sent", re.compile(b">" + DIGITS))) + PASSED_OVER
 NUMBERED = ("Start", "Continuation", "Acknowledgement")
 
 
@@ -21,9 +21,9 @@ def log_lines(text):
     return lines + [last] if last else lines
 
 
-def form_of(line):
+def form_of(line, forms=FORMS):
     """The name of a line's form, and its parts."""
-    for name, form in FORMS:
+    for name, form in forms:
         found = form.fullmatch(line)
         if found:
             return name, [part.decode("ascii") for part in found.groups()]

@@ -1,4 +1,4 @@
--- A channel that loses and repeats frames as a seed says. The quotation is of `docs/LOGS.md`, "A tray without modules".
+-- A channel that loses and repeats frames as a seed says. The quotation is of `docs/REHEARSAL.md`.
 use Prim.Native.Nat.{ℕ, _+_, _*_, _%_}
 use mathlib.Core.Bool.{cond}
 use lib.Dec.{ltb}

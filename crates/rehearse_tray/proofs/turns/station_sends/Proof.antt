@@ -1,0 +1,82 @@
+use lib.Seq.{length-take-le}
+use mathlib.Core.Path.{sym}
+use borrow.Author.Needs.{needs}
+use Rattle.rehearse_tray.proofs.turns.station_sends.Statement.{statement}
+use Rattle.rehearse_tray.proofs.turns.station_sends.Tie as tie
+
+place-requires : tie.Need-place-requires
+place-requires c κs = search needs
+
+session-at-requires : tie.Need-session-at-requires
+session-at-requires c κs = search needs
+
+link-at-requires : tie.Need-link-at-requires
+link-at-requires c κs = search needs
+
+station-sending-requires : tie.Need-station-sending-requires
+station-sending-requires c κs = search needs
+
+slice-aggregate-write-sending : tie.Need-slice-aggregate-write-sending
+slice-aggregate-write-sending c = search needs
+
+slice-aggregate-write-sending-2 : tie.Need-slice-aggregate-write-sending-2
+slice-aggregate-write-sending-2 c = search needs
+
+write-sending-requires : tie.Need-write-sending-requires
+write-sending-requires c κs = search needs
+
+slice-aggregate-count-of : tie.Need-slice-aggregate-count-of
+slice-aggregate-count-of c = search needs
+
+count-of-requires : tie.Need-count-of-requires
+count-of-requires c κs = search needs
+
+returns : tie.Need-returns
+returns c = search needs
+
+station-sent-requires : tie.Need-station-sent-requires
+station-sent-requires c κs = search needs
+
+with-station-requires : tie.Need-with-station-requires
+with-station-requires c κs = search needs
+
+array-share-prefix-frame : tie.Need-array-share-prefix-frame
+array-share-prefix-frame c = search needs
+
+slice-aggregate-send-frame : tie.Need-slice-aggregate-send-frame
+slice-aggregate-send-frame c = sym (length-take-le _ _ (c .before .before .before .before .before .count-of .ensures))
+
+send-frame-requires : tie.Need-send-frame-requires
+send-frame-requires c κs = search needs
+
+same-length : tie.Need-same-length
+same-length c = search needs
+
+same-length-2 : tie.Need-same-length-2
+same-length-2 c = search needs
+
+returns-2 : tie.Need-returns-2
+returns-2 c = search needs
+
+pub station-sends-spec : {M : Type 1} → statement M
+station-sends-spec =
+    tie.close
+    (tie.spec
+    place-requires
+    session-at-requires
+    link-at-requires
+    station-sending-requires
+    slice-aggregate-write-sending
+    slice-aggregate-write-sending-2
+    write-sending-requires
+    slice-aggregate-count-of
+    count-of-requires
+    returns
+    station-sent-requires
+    with-station-requires
+    array-share-prefix-frame
+    slice-aggregate-send-frame
+    send-frame-requires
+    same-length
+    same-length-2
+    returns-2)
