@@ -1,10 +1,16 @@
 // Rehearses a tray without modules: it reads which modules there are and how much the channel loses and repeats, runs the station and the devices
 // against each other, and writes the station's log (docs/REHEARSAL.md).
+mod ends;
+mod given;
 mod log;
 mod tray;
 mod turns;
 
+use given::Given;
+use given::Module;
+use lines::Streams;
 use links::LinkState;
+use lossy_channel::Channel;
 use octets::LONGEST_MESSAGE;
 use rehearsal_lines::Line;
 use station::AREA_LENGTH;
@@ -16,34 +22,31 @@ ghost use lib.ListN.{length};
 // Turns of a rehearsal: 4,000 of either end at each socket, if they go round.
 const TURNS: u32 = 64000;
 
+// What the station asks with: an Invite, with no attention.
+const INVITE: [u8; 2] = [0, 0];
+
 // How far the program has come in its input.
 struct Reading {
-    tray: Tray,
+    given: Given,
+    streams: Streams,
     // Lines so far.
     lines: u64,
     // Characters of the next line.
     held: usize,
 }
 
-// Whether a module may be at a socket with a Link ID: neither was given before.
-fn is_new(tray: Tray, socket: Socket, id: u32) -> bool {
-    let mut found = false;
-    let mut place: usize = 0;
-    while place < 8 {
-        let session = tray::session_at(tray, place);
-        let host = session.device;
-        if 0 < host.length {
-            if (place == socket.place()) | (session.id == id) {
-                found = true;
-            }
-        }
-        place += 1;
-    }
-    !found
+// What was given with one line more, and how far the output has come.
+struct Taken {
+    given: Given,
+    streams: Streams,
 }
 
-fn refuse(tray: Tray, number: u64, output: &mut [u8]) -> Tray {
-    tray::with_streams(tray, log::put_refused(tray.streams, number, output))
+fn refuse(before: Taken, number: u64, output: &mut [u8]) -> Taken {
+    let given = before.given;
+    Taken {
+        given: given,
+        streams: log::put_refused(before.streams, number, output),
+    }
 }
 
 // Whether a line is longer than any but a comment.
@@ -51,14 +54,51 @@ fn is_long(line: &[u8]) -> bool {
     (rehearsal_lines::LONGEST < line.len()) & (octets::octet_at(line, 0) != b'#')
 }
 
+// A line that gives the channel.
+fn take_channel(before: Taken, number: u64, channel: Channel, output: &mut [u8]) -> Taken {
+    let given = before.given;
+    if given.mixed {
+        return refuse(before, number, output);
+    }
+    let streams = before.streams;
+    Taken {
+        given: given::with_channel(given, channel),
+        streams: streams,
+    }
+}
+
+// A line that gives a module, whose message goes to its socket's place.
+fn take_module(
+    before: Taken,
+    number: u64,
+    socket: Socket,
+    module: Module,
+    message: &[u8],
+    messages: &mut [u8],
+    output: &mut [u8],
+) -> Taken {
+    let given = before.given;
+    let modules = given.modules;
+    if !given::is_new(modules, socket, module.id) {
+        return refuse(before, number, output);
+    }
+    let place = socket.place();
+    octet_parts::copy(messages, LONGEST_MESSAGE * place, message, 0, module.length);
+    let streams = before.streams;
+    Taken {
+        given: given::with_module(given, place, module),
+        streams: streams,
+    }
+}
+
 // Takes a line.
 fn take_line(
-    before: Tray,
+    before: Taken,
     number: u64,
     line: &[u8],
     messages: &mut [u8],
     output: &mut [u8],
-) -> Tray {
+) -> Taken {
     if is_long(line) {
         return refuse(before, number, output);
     }
@@ -71,20 +111,12 @@ fn take_line(
             lost,
             repeated,
         } => {
-            if before.given {
-                return refuse(before, number, output);
-            }
-            let mut after = tray::with_channel(before, lossy_channel::new(seed, lost, repeated));
-            after.given = true;
-            after
+            let channel = lossy_channel::new(seed, lost, repeated);
+            take_channel(before, number, channel, output)
         }
         Line::Module { socket, id, length } => {
-            if !is_new(before, socket, id) {
-                return refuse(before, number, output);
-            }
-            let place = socket.place();
-            octet_parts::copy(messages, LONGEST_MESSAGE * place, &message, 0, length);
-            tray::with_session(before, place, tray::new_session(id, length))
+            let module = Module { id, length };
+            take_module(before, number, socket, module, &message, messages, output)
         }
     }
 }
@@ -93,15 +125,15 @@ fn take_line(
 fn read_on(reading: Reading, input: &mut [u8], line: &mut [u8], output: &[u8]) -> Reading
     ensures { λ r. ⌜ r .held ≤ length (now (line .exit)) ⌝ }
 {
-    let tray = reading.tray;
-    let streams = lines::next_piece(tray.streams, lines::STANDARD_INPUT, input, output);
+    let given = reading.given;
+    let streams = lines::next_piece(reading.streams, lines::STANDARD_INPUT, input, output);
     let from = streams.from;
     let to = streams.to;
-    let held = line_buffer::hold(line, reading.held, &input[from..to]);
     Reading {
-        tray: tray::with_streams(tray, streams),
+        given: given,
+        streams: streams,
         lines: reading.lines,
-        held: held,
+        held: line_buffer::hold(line, reading.held, &input[from..to]),
     }
 }
 
@@ -131,13 +163,21 @@ fn take_turn(
     output: &mut [u8],
 ) -> Reading {
     let read = read_on(reading, input, line, output);
-    let tray = read.tray;
-    let streams = tray.streams;
+    let streams = read.streams;
     if lines::is_whole(streams, read.held) {
         let number = next_number(read.lines);
         let count = line_length(streams.ends, line, read.held);
+        let given = read.given;
+        let before = Taken {
+            given: given,
+            streams: streams,
+        };
+        let taken = take_line(before, number, &line[..count], messages, output);
+        let after = taken.given;
+        let written = taken.streams;
         return Reading {
-            tray: take_line(tray, number, &line[..count], messages, output),
+            given: after,
+            streams: written,
             lines: number,
             held: 0,
         };
@@ -145,43 +185,55 @@ fn take_turn(
     read
 }
 
-// Reads all lines.
-fn read_lines(input: &mut [u8], line: &mut [u8], messages: &mut [u8], output: &mut [u8]) -> Tray {
-    let mut reading = Reading {
-        tray: tray::new_tray(),
+// Before the first line.
+fn begin() -> Reading {
+    let given = given::nothing_given();
+    Reading {
+        given: given,
+        streams: lines::start(),
         lines: 0,
         held: 0,
-    };
+    }
+}
+
+// Reads all lines.
+fn read_lines(
+    input: &mut [u8],
+    line: &mut [u8],
+    messages: &mut [u8],
+    output: &mut [u8],
+) -> Reading {
+    let mut reading = begin();
     // Nothing says that the input ends, so the turns are counted down from a number that no run uses up.
     let mut turns = u64::MAX;
     while turns > 0 {
         reading = take_turn(reading, input, line, messages, output);
-        let tray = reading.tray;
-        let streams = tray.streams;
+        let streams = reading.streams;
         if streams.found {
             turns -= 1;
         } else {
             turns = 0;
         }
     }
-    reading.tray
+    reading
 }
 
-fn open_all(before: Tray, output: &mut [u8]) -> Tray {
+fn open_all(before: Tray, modules: [Module; 8], output: &mut [u8]) -> Tray {
     let mut tray = before;
-    let mut socket: u8 = 1;
-    while socket <= 8 {
-        tray = turns::open_socket(tray, Socket(socket), output);
-        socket += 1;
+    let mut place: u8 = 0;
+    while place < 8 {
+        tray = turns::open_socket(tray, Socket(place + 1), modules[place as usize], output);
+        place += 1;
     }
     tray
 }
 
 // Whether the station has nothing more to do at a socket.
 fn is_closed(tray: Tray, place: usize) -> bool {
-    let link = tray::link_at(tray, place);
-    let session = tray::session_at(tray, place);
-    let host = session.station;
+    let end = tray::station_at(tray, place);
+    let links = end.links;
+    let link = link_records::link_at(links, place);
+    let host = end.host;
     let state = link.state;
     let LinkState::Free = state else {
         return false;
@@ -201,42 +253,39 @@ fn is_over(tray: Tray) -> bool {
     closed | !streams.taken
 }
 
-// Whose turn it is, of 16: the station and the device of socket 1, those of socket 2, and so on; or as the channel draws.
-fn next_turn(tray: Tray, turn: u32) -> u32
+// Whose turn it is, of 16: the station and the device of socket 1, those of socket 2, and so on; or, in a mixture, as the channel has drawn.
+fn next_turn(mixed: bool, drawn: u32, turn: u32) -> u32
     ensures { λ r. ⌜ r < 16 ⌝ }
 {
-    if tray.given {
-        let channel = tray.channel;
-        return channel.number % 16;
-    }
-    turn % 16
-}
-
-fn draw(before: Tray) -> Tray {
-    tray::with_channel(before, lossy_channel::draw(before.channel))
+    if mixed { drawn % 16 } else { turn % 16 }
 }
 
 // One turn.
 fn serve(
     before: Tray,
+    given: Given,
     turn: u32,
     area: &mut [u8],
     areas: &mut [u8],
     messages: &[u8],
     output: &mut [u8],
 ) -> Tray {
-    let tray = draw(before);
-    let next = next_turn(tray, turn);
+    let channel = lossy_channel::draw(before.channel);
+    let tray = tray::with_progress(before, channel, before.streams);
+    let next = next_turn(given.mixed, channel.number, turn);
     let socket = Socket((next / 2 + 1) as u8);
+    let modules = given.modules;
+    let module = given::module_at(modules, socket.place());
     if next % 2 == 0 {
-        return turns::station_turn(tray, socket, areas, output);
+        return turns::station_turn(tray, socket, module.id, areas, output);
     }
-    turns::device_turn(tray, socket, area, messages, output)
+    turns::device_turn(tray, socket, module, area, messages, output)
 }
 
 // Turns until all is closed, or there were enough.
 fn take_turns(
     before: Tray,
+    given: Given,
     area: &mut [u8],
     areas: &mut [u8],
     messages: &[u8],
@@ -248,7 +297,7 @@ fn take_turns(
         if is_over(tray) {
             turn = TURNS;
         } else {
-            tray = serve(tray, turn, area, areas, messages, output);
+            tray = serve(tray, given, turn, area, areas, messages, output);
             turn += 1;
         }
     }
@@ -256,38 +305,42 @@ fn take_turns(
 }
 
 // The station closes what is still open, and sends each Close that is due, in three rounds over the sockets.
-fn give_up_rest(before: Tray, areas: &mut [u8], output: &mut [u8]) -> Tray {
+fn give_up_rest(before: Tray, modules: [Module; 8], areas: &mut [u8], output: &mut [u8]) -> Tray {
     let mut tray = before;
     let mut turn: u8 = 0;
     while turn < 24 {
-        tray = turns::give_up(tray, Socket(turn % 8 + 1), areas, output);
+        let module = modules[turn as usize % 8];
+        tray = turns::give_up(tray, Socket(turn % 8 + 1), module.id, areas, output);
         turn += 1;
     }
     tray
 }
 
-fn rehearse(before: Tray, messages: &[u8], output: &mut [u8]) -> Tray {
+fn rehearse(given: Given, streams: Streams, messages: &[u8], output: &mut [u8]) -> Streams {
     let mut area = [0u8; AREA_LENGTH];
-    // Each device has an area of its own.
     let mut areas = [0u8; AREA_LENGTH];
-    let opened = open_all(before, output);
-    let served = take_turns(opened, &mut area, &mut areas, messages, output);
-    give_up_rest(served, &mut areas, output)
+    let modules = given.modules;
+    let new = tray::new_tray(modules, given.channel, streams);
+    let opened = open_all(new, modules, output);
+    let served = take_turns(opened, given, &mut area, &mut areas, messages, output);
+    let closed = give_up_rest(served, modules, &mut areas, output);
+    closed.streams
 }
 
 // Where the input could not be read to its end, nothing is rehearsed.
-fn rehearse_read(tray: Tray, messages: &[u8], output: &mut [u8]) -> Tray {
-    let streams = tray.streams;
+fn rehearse_read(reading: Reading, messages: &[u8], output: &mut [u8]) -> Streams {
+    let given = reading.given;
+    let streams = reading.streams;
     if streams.over {
-        return rehearse(tray, messages, output);
+        return rehearse(given, streams, messages, output);
     }
-    tray
+    streams
 }
 
 fn run(input: &mut [u8], line: &mut [u8], messages: &mut [u8], output: &mut [u8]) {
-    let tray = read_lines(input, line, messages, output);
-    let rehearsed = rehearse_read(tray, messages, output);
-    lines::flush(rehearsed.streams, output);
+    let reading = read_lines(input, line, messages, output);
+    let streams = rehearse_read(reading, messages, output);
+    lines::flush(streams, output);
 }
 
 fn main() {

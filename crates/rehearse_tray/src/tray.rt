@@ -1,131 +1,113 @@
-// The tray of a rehearsal: the station's records, and of each socket its hosts and its device.
+// The tray of a rehearsal: the station's records, and the hosts of both ends at each socket.
+use super::ends::StationEnd;
+use super::given::Module;
 use lines::Streams;
 use links::Link;
 use lossy_channel::Channel;
 use rehearsal_hosts::DeviceHost;
 use rehearsal_hosts::StationHost;
-
-// What there is of a socket beside the station's record.
-pub struct Session {
-    pub id: u32,
-    pub station: StationHost,
-    pub device: DeviceHost,
-}
+use rehearsal_hosts::new_device;
+use rehearsal_hosts::new_station;
 
 pub struct Tray {
     pub links: [Link; 8],
-    pub sessions: [Session; 8],
+    pub stations: [StationHost; 8],
+    pub devices: [DeviceHost; 8],
     pub channel: Channel,
-    // Whether a line gave the channel.
-    pub given: bool,
     pub streams: Streams,
 }
 
-// The session of a module whose message has so many octets.
-pub fn new_session(id: u32, length: usize) -> Session {
-    let station = rehearsal_hosts::new_station();
-    let device = rehearsal_hosts::new_device(length);
-    Session {
-        id: id,
-        station: station,
-        device: device,
+// A device at each socket that has a module.
+fn new_devices(modules: [Module; 8]) -> [DeviceHost; 8] {
+    let nobody = new_device(0);
+    let mut devices = [nobody; 8];
+    let mut place: usize = 0;
+    while place < 8 {
+        let module = modules[place];
+        devices[place] = new_device(module.length);
+        place += 1;
     }
+    devices
 }
 
-// Eight sockets without a module, and a channel that loses and repeats nothing.
-pub fn new_tray() -> Tray {
-    let links = link_records::blank_links();
-    let session = new_session(0, 0);
+// No link, and nothing is due.
+pub fn new_tray(modules: [Module; 8], channel: Channel, streams: Streams) -> Tray {
+    let station = new_station();
     Tray {
-        links: links,
-        sessions: [session; 8],
-        channel: lossy_channel::new(0, 0, 0),
-        given: false,
-        streams: lines::start(),
-    }
-}
-
-// The station's record at a place.
-pub fn link_at(tray: Tray, place: usize) -> Link {
-    let links = tray.links;
-    link_records::link_at(links, place)
-}
-
-// The session at a place; one without a module where there is no such place.
-pub fn session_at(tray: Tray, place: usize) -> Session {
-    let sessions = tray.sessions;
-    if place < 8 {
-        return sessions[place];
-    }
-    new_session(0, 0)
-}
-
-pub fn with_links(tray: Tray, links: [Link; 8]) -> Tray {
-    let sessions = tray.sessions;
-    let channel = tray.channel;
-    let streams = tray.streams;
-    Tray {
-        links: links,
-        sessions: sessions,
+        links: link_records::blank_links(),
+        stations: [station; 8],
+        devices: new_devices(modules),
         channel: channel,
-        given: tray.given,
         streams: streams,
     }
 }
 
-pub fn with_session(tray: Tray, place: usize, session: Session) -> Tray {
+// The station at a socket's place.
+pub fn station_at(tray: Tray, place: usize) -> StationEnd {
     let links = tray.links;
-    let mut sessions = tray.sessions;
+    let stations = tray.stations;
     if place < 8 {
-        sessions[place] = session;
+        return StationEnd {
+            links: links,
+            host: stations[place],
+        };
+    }
+    StationEnd {
+        links: links,
+        host: new_station(),
+    }
+}
+
+// The device at a socket's place.
+pub fn device_at(tray: Tray, place: usize) -> DeviceHost {
+    let devices = tray.devices;
+    if place < 8 {
+        return devices[place];
+    }
+    new_device(0)
+}
+
+pub fn with_station(tray: Tray, place: usize, end: StationEnd) -> Tray {
+    let links = end.links;
+    let host = end.host;
+    let mut stations = tray.stations;
+    if place < 8 {
+        stations[place] = host;
+    }
+    let devices = tray.devices;
+    let channel = tray.channel;
+    let streams = tray.streams;
+    Tray {
+        links: links,
+        stations: stations,
+        devices: devices,
+        channel: channel,
+        streams: streams,
+    }
+}
+
+pub fn with_device(tray: Tray, place: usize, host: DeviceHost) -> Tray {
+    let links = tray.links;
+    let stations = tray.stations;
+    let mut devices = tray.devices;
+    if place < 8 {
+        devices[place] = host;
     }
     let channel = tray.channel;
     let streams = tray.streams;
     Tray {
         links: links,
-        sessions: sessions,
+        stations: stations,
+        devices: devices,
         channel: channel,
-        given: tray.given,
         streams: streams,
     }
 }
 
-pub fn with_station(tray: Tray, place: usize, station: StationHost) -> Tray {
-    let session = session_at(tray, place);
-    let device = session.device;
-    with_session(
-        tray,
-        place,
-        Session {
-            id: session.id,
-            station: station,
-            device: device,
-        },
-    )
-}
-
-pub fn with_device(tray: Tray, place: usize, device: DeviceHost) -> Tray {
-    let session = session_at(tray, place);
-    let station = session.station;
-    with_session(
-        tray,
-        place,
-        Session {
-            id: session.id,
-            station: station,
-            device: device,
-        },
-    )
-}
-
-pub fn with_channel(tray: Tray, channel: Channel) -> Tray {
+// With how far the channel and the log have come.
+pub fn with_progress(tray: Tray, channel: Channel, streams: Streams) -> Tray {
     let mut after = tray;
     after.channel = channel;
-    after
-}
-
-pub fn with_streams(tray: Tray, streams: Streams) -> Tray {
-    let mut after = tray;
     after.streams = streams;
     after
 }

@@ -6,16 +6,25 @@ use Rattle.rehearse_tray.proofs.give_up_rest.Statement.{statement}
 use Rattle.rehearse_tray.proofs.give_up_rest.Tie as tie
 
 abbrev Inv-loop : tie.InvT-loop
-Inv-loop areas₀ output₀ tray₀ turn₀ areas output tray turn = (turn ≤ 24) × (length areas ≡ length areas₀) × (length output ≡ length output₀)
+Inv-loop areas₀ output₀ modules tray₀ turn₀ areas output tray turn = (turn ≤ 24) × (length areas ≡ length areas₀) × (length output ≡ length output₀)
 
 abbrev μ-loop : tie.MeasureT-loop
-μ-loop areas₀ output₀ tray₀ turn₀ areas output tray turn = 24 - turn
+μ-loop areas₀ output₀ modules tray₀ turn₀ areas output tray turn = 24 - turn
 
 loop-holds : tie.Need-loop-holds Inv-loop μ-loop
 loop-holds c = search needs
 
-add-t8 : tie.Need-add-t8 Inv-loop μ-loop
-add-t8 c = search needs
+cast-module : tie.Need-cast-module Inv-loop μ-loop
+cast-module c = search needs
+
+mul-module : tie.Need-mul-module Inv-loop μ-loop
+mul-module c = search needs
+
+array-copy-out-module : tie.Need-array-copy-out-module Inv-loop μ-loop
+array-copy-out-module c = search needs
+
+add-t17 : tie.Need-add-t17 Inv-loop μ-loop
+add-t17 c = search needs
 
 give-up-requires : tie.Need-give-up-requires Inv-loop μ-loop
 give-up-requires c κs = search needs
@@ -45,7 +54,10 @@ give-up-rest-spec =
     Inv-loop
     μ-loop
     loop-holds
-    add-t8
+    cast-module
+    mul-module
+    array-copy-out-module
+    add-t17
     give-up-requires
     add-turn
     loop-less

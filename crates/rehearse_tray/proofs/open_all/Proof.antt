@@ -6,19 +6,31 @@ use Rattle.rehearse_tray.proofs.open_all.Statement.{statement}
 use Rattle.rehearse_tray.proofs.open_all.Tie as tie
 
 abbrev Inv-loop : tie.InvT-loop
-Inv-loop output₀ tray₀ socket₀ output tray socket = (socket ≤ 9) × (length output ≡ length output₀)
+Inv-loop output₀ modules tray₀ place₀ output tray place = (place ≤ 8) × (length output ≡ length output₀)
 
 abbrev μ-loop : tie.MeasureT-loop
-μ-loop output₀ tray₀ socket₀ output tray socket = 9 - socket
+μ-loop output₀ modules tray₀ place₀ output tray place = 8 - place
 
 loop-holds : tie.Need-loop-holds Inv-loop μ-loop
 loop-holds c = search needs
 
+add-t8 : tie.Need-add-t8 Inv-loop μ-loop
+add-t8 c = search needs
+
+cast-open-socket : tie.Need-cast-open-socket Inv-loop μ-loop
+cast-open-socket c = search needs
+
+mul-open-socket : tie.Need-mul-open-socket Inv-loop μ-loop
+mul-open-socket c = search needs
+
+array-copy-out-open-socket : tie.Need-array-copy-out-open-socket Inv-loop μ-loop
+array-copy-out-open-socket c = search needs
+
 open-socket-requires : tie.Need-open-socket-requires Inv-loop μ-loop
 open-socket-requires c κs = search needs
 
-add-socket : tie.Need-add-socket Inv-loop μ-loop
-add-socket c = search needs
+add-place : tie.Need-add-place Inv-loop μ-loop
+add-place c = search needs
 
 loop-less : tie.Need-loop-less Inv-loop μ-loop
 loop-less c = search needs
@@ -39,8 +51,12 @@ open-all-spec =
     Inv-loop
     μ-loop
     loop-holds
+    add-t8
+    cast-open-socket
+    mul-open-socket
+    array-copy-out-open-socket
     open-socket-requires
-    add-socket
+    add-place
     loop-less
     loop-again
     same-length

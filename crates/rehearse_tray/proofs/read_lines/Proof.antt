@@ -1,3 +1,4 @@
+use Prim.Native.Nat.{_-_, _≤_}
 use borrow.Author.Needs.{needs}
 use lib.ListN.{length}
 use mathlib.Core.Path.{_≡_}
@@ -5,17 +6,13 @@ use Rattle.rehearse_tray.proofs.read_lines.Statement.{statement}
 use Rattle.rehearse_tray.proofs.read_lines.Tie as tie
 
 abbrev Inv-loop : tie.InvT-loop
-Inv-loop input₀ line₀ messages₀ output₀ reading₀ turns₀ input line messages output reading turns =
-    (length input ≡ length input₀)
-    × (length line ≡ length line₀)
-    × (length messages ≡ length messages₀)
-    × (length output ≡ length output₀)
+Inv-loop input₀ line₀ messages₀ output₀ reading₀ turns₀ input line messages output reading turns = (length input ≡ length input₀) × (length line ≡ length line₀) × (length messages ≡ length messages₀) × (length output ≡ length output₀)
 
 abbrev μ-loop : tie.MeasureT-loop
 μ-loop input₀ line₀ messages₀ output₀ reading₀ turns₀ input line messages output reading turns = turns
 
-new-tray-requires : tie.Need-new-tray-requires Inv-loop μ-loop
-new-tray-requires c κs = search needs
+begin-requires : tie.Need-begin-requires Inv-loop μ-loop
+begin-requires c κs = search needs
 
 loop-holds : tie.Need-loop-holds Inv-loop μ-loop
 loop-holds c = search needs
@@ -59,7 +56,7 @@ read-lines-spec =
     (tie.spec
     Inv-loop
     μ-loop
-    new-tray-requires
+    begin-requires
     loop-holds
     take-turn-requires
     sub-turns

@@ -1,6 +1,6 @@
-use lib.Seq.{length-take-le}
-use mathlib.Core.Path.{sym}
 use native.Mathlib.Omega.{arith}
+use mathlib.Core.Path.{sym}
+use lib.Seq.{length-take-le}
 use borrow.Author.Needs.{needs}
 use Rattle.rehearse_tray.proofs.take_turn.Statement.{statement}
 use Rattle.rehearse_tray.proofs.take_turn.Tie as tie
@@ -23,7 +23,7 @@ slice-reshare-prefix-take-line c = search needs
 slice-aggregate-take-line : tie.Need-slice-aggregate-take-line
 slice-aggregate-take-line c =
     let held = c .before .before .before .before .before .before .before .before .before .before .before .before .read-on .ensures in
-    sym (length-take-le _ _ (omega (arith, held, c .before .line-length .ensures)))
+    sym (length-take-le _ _ (omega (arith, held, c .before .before .line-length .ensures)))
 
 take-line-requires : tie.Need-take-line-requires
 take-line-requires c κs = search needs

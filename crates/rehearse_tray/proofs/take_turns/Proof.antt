@@ -6,10 +6,10 @@ use Rattle.rehearse_tray.proofs.take_turns.Statement.{statement}
 use Rattle.rehearse_tray.proofs.take_turns.Tie as tie
 
 abbrev Inv-loop : tie.InvT-loop
-Inv-loop area₀ areas₀ messages output₀ tray₀ turn₀ area areas output tray turn = (turn ≤ 64000) × (length area ≡ length area₀) × (length areas ≡ length areas₀) × (length output ≡ length output₀)
+Inv-loop given area₀ areas₀ messages output₀ tray₀ turn₀ area areas output tray turn = (turn ≤ 64000) × (length area ≡ length area₀) × (length areas ≡ length areas₀) × (length output ≡ length output₀)
 
 abbrev μ-loop : tie.MeasureT-loop
-μ-loop area₀ areas₀ messages output₀ tray₀ turn₀ area areas output tray turn = 64000 - turn
+μ-loop given area₀ areas₀ messages output₀ tray₀ turn₀ area areas output tray turn = 64000 - turn
 
 loop-holds : tie.Need-loop-holds Inv-loop μ-loop
 loop-holds c = search needs

@@ -7,9 +7,6 @@ use Rattle.rehearse_tray.proofs.turns.device_turn.Tie as tie
 place-requires : tie.Need-place-requires
 place-requires c κs = search needs
 
-session-at-requires : tie.Need-session-at-requires
-session-at-requires c κs = search needs
-
 mul-from : tie.Need-mul-from
 mul-from c = search needs
 
@@ -22,20 +19,26 @@ sub-if2 c = search needs
 returns-2 : tie.Need-returns-2
 returns-2 c = search needs
 
+place-requires-2 : tie.Need-place-requires-2
+place-requires-2 c κs = search needs
+
+device-at-requires : tie.Need-device-at-requires
+device-at-requires c κs = search needs
+
 device-sending-requires : tie.Need-device-sending-requires
 device-sending-requires c κs = search needs
 
-add-write-sending : tie.Need-add-write-sending
-add-write-sending c = search needs
+add-message : tie.Need-add-message
+add-message c = search needs
 
-sub-write-sending : tie.Need-sub-write-sending
-sub-write-sending c = search needs
+sub-message : tie.Need-sub-message
+sub-message c = search needs
 
-part-write-sending-start : tie.Need-part-write-sending-start
-part-write-sending-start c = search needs
+part-message-start : tie.Need-part-message-start
+part-message-start c = search needs
 
-part-write-sending-end : tie.Need-part-write-sending-end
-part-write-sending-end c = search needs
+part-message-end : tie.Need-part-message-end
+part-message-end c = search needs
 
 slice-aggregate-write-sending : tie.Need-slice-aggregate-write-sending
 slice-aggregate-write-sending c = search needs
@@ -49,8 +52,8 @@ slice-aggregate-count-of c = search needs
 count-of-requires : tie.Need-count-of-requires
 count-of-requires c κs = search needs
 
-returns-3 : tie.Need-returns-3
-returns-3 c = search needs
+place-requires-3 : tie.Need-place-requires-3
+place-requires-3 c κs = search needs
 
 device-sent-requires : tie.Need-device-sent-requires
 device-sent-requires c κs = search needs
@@ -58,14 +61,17 @@ device-sent-requires c κs = search needs
 with-device-requires : tie.Need-with-device-requires
 with-device-requires c κs = search needs
 
+returns-3 : tie.Need-returns-3
+returns-3 c = search needs
+
 array-share-prefix-frame : tie.Need-array-share-prefix-frame
 array-share-prefix-frame c = search needs
 
-slice-aggregate-to-station : tie.Need-slice-aggregate-to-station
-slice-aggregate-to-station c = sym (length-take-le _ _ (c .before .before .before .before .before .count-of .ensures))
+slice-aggregate-send-to-station : tie.Need-slice-aggregate-send-to-station
+slice-aggregate-send-to-station c = sym (length-take-le _ _ (c .before .before .before .before .before .before .count-of .ensures))
 
-to-station-requires : tie.Need-to-station-requires
-to-station-requires c κs = search needs
+send-to-station-requires : tie.Need-send-to-station-requires
+send-to-station-requires c κs = search needs
 
 same-length : tie.Need-same-length
 same-length c = search needs
@@ -81,26 +87,28 @@ device-turn-spec =
     tie.close
     (tie.spec
     place-requires
-    session-at-requires
     mul-from
     returns
     sub-if2
     returns-2
+    place-requires-2
+    device-at-requires
     device-sending-requires
-    add-write-sending
-    sub-write-sending
-    part-write-sending-start
-    part-write-sending-end
+    add-message
+    sub-message
+    part-message-start
+    part-message-end
     slice-aggregate-write-sending
     write-sending-requires
     slice-aggregate-count-of
     count-of-requires
-    returns-3
+    place-requires-3
     device-sent-requires
     with-device-requires
+    returns-3
     array-share-prefix-frame
-    slice-aggregate-to-station
-    to-station-requires
+    slice-aggregate-send-to-station
+    send-to-station-requires
     same-length
     same-length-2
     returns-4)

@@ -7,9 +7,6 @@ use Rattle.rehearse_tray.proofs.turns.station_sends.Tie as tie
 place-requires : tie.Need-place-requires
 place-requires c κs = search needs
 
-session-at-requires : tie.Need-session-at-requires
-session-at-requires c κs = search needs
-
 link-at-requires : tie.Need-link-at-requires
 link-at-requires c κs = search needs
 
@@ -31,23 +28,26 @@ slice-aggregate-count-of c = search needs
 count-of-requires : tie.Need-count-of-requires
 count-of-requires c κs = search needs
 
-returns : tie.Need-returns
-returns c = search needs
-
 station-sent-requires : tie.Need-station-sent-requires
 station-sent-requires c κs = search needs
+
+place-requires-2 : tie.Need-place-requires-2
+place-requires-2 c κs = search needs
 
 with-station-requires : tie.Need-with-station-requires
 with-station-requires c κs = search needs
 
+returns : tie.Need-returns
+returns c = search needs
+
 array-share-prefix-frame : tie.Need-array-share-prefix-frame
 array-share-prefix-frame c = search needs
 
-slice-aggregate-send-frame : tie.Need-slice-aggregate-send-frame
-slice-aggregate-send-frame c = sym (length-take-le _ _ (c .before .before .before .before .before .count-of .ensures))
+slice-aggregate-send-to-device : tie.Need-slice-aggregate-send-to-device
+slice-aggregate-send-to-device c = sym (length-take-le _ _ (c .before .before .before .before .before .before .count-of .ensures))
 
-send-frame-requires : tie.Need-send-frame-requires
-send-frame-requires c κs = search needs
+send-to-device-requires : tie.Need-send-to-device-requires
+send-to-device-requires c κs = search needs
 
 same-length : tie.Need-same-length
 same-length c = search needs
@@ -63,7 +63,6 @@ station-sends-spec =
     tie.close
     (tie.spec
     place-requires
-    session-at-requires
     link-at-requires
     station-sending-requires
     slice-aggregate-write-sending
@@ -71,12 +70,13 @@ station-sends-spec =
     write-sending-requires
     slice-aggregate-count-of
     count-of-requires
-    returns
     station-sent-requires
+    place-requires-2
     with-station-requires
+    returns
     array-share-prefix-frame
-    slice-aggregate-send-frame
-    send-frame-requires
+    slice-aggregate-send-to-device
+    send-to-device-requires
     same-length
     same-length-2
     returns-2)

@@ -1,19 +1,22 @@
 use Prim.Native.Nat.{_-_, _≤_}
 use borrow.Author.Needs.{needs}
-use Rattle.rehearse_tray.proofs.is_new.Statement.{statement}
-use Rattle.rehearse_tray.proofs.is_new.Tie as tie
+use Rattle.rehearse_tray.proofs.given.is_new.Statement.{statement}
+use Rattle.rehearse_tray.proofs.given.is_new.Tie as tie
 
 abbrev Inv-loop : tie.InvT-loop
-Inv-loop tray socket id found₀ place₀ found place = place ≤ 8
+Inv-loop socket id modules found₀ place₀ found place = place ≤ 8
 
 abbrev μ-loop : tie.MeasureT-loop
-μ-loop tray socket id found₀ place₀ found place = 8 - place
+μ-loop socket id modules found₀ place₀ found place = 8 - place
 
 loop-holds : tie.Need-loop-holds Inv-loop μ-loop
 loop-holds c = search needs
 
-session-at-requires : tie.Need-session-at-requires Inv-loop μ-loop
-session-at-requires c κs = search needs
+mul-module : tie.Need-mul-module Inv-loop μ-loop
+mul-module c = search needs
+
+array-copy-out-module : tie.Need-array-copy-out-module Inv-loop μ-loop
+array-copy-out-module c = search needs
 
 place-requires : tie.Need-place-requires Inv-loop μ-loop
 place-requires c κs = search needs
@@ -37,7 +40,8 @@ is-new-spec =
     Inv-loop
     μ-loop
     loop-holds
-    session-at-requires
+    mul-module
+    array-copy-out-module
     place-requires
     add-place
     loop-less
