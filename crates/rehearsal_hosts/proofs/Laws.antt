@@ -15,7 +15,10 @@ use Rattle.links.specs.declared.Refusal.the-variants as R
 use Rattle.links.specs.declared.Answer.{Answer}
 use Rattle.links.specs.declared.Answer.the-variants as A
 use Rattle.rehearsal_hosts.specs.Hosts.{stationSent, stationRefused, stationNotes, deviceSendingIn, deviceSent, begunBy, deviceNotes}
+use Rattle.rehearsal_hosts.specs.Ends.{invited, closedBy}
 use Rattle.rehearsal_hosts.specs.declared.StationHost.{StationHost}
+use Rattle.rehearsal_hosts.specs.declared.StationEnd.{StationEnd}
+use Rattle.transactions.specs.declared.Socket.{Socket}
 use Rattle.rehearsal_hosts.specs.declared.DeviceHost.{DeviceHost}
 use Rattle.rehearsal_hosts.specs.declared.Sending.{Sending}
 use Rattle.rehearsal_hosts.specs.declared.Sending.the-variants.{Nothing, Open, Ack, Close, Acknowledgement, Segment}
@@ -126,6 +129,40 @@ pub sending-other : (h : DeviceHost) (u : LinkState) → OneOf notOpen (tagOf st
 sending-other h U.Free o = refl
 sending-other h U.Opening o = refl
 sending-other h U.Open o = absurd (miss notOpen 2 tt o)
+
+-- answers after which the station sends no Invite
+abbrev notOpened : List ℕ
+notOpened = 0 ∷ 1 ∷ 2 ∷ 3 ∷ 4 ∷ 6 ∷ 7 ∷ 8 ∷ 9 ∷ 10 ∷ []
+
+pub invited-other : (ls : List Link) (s : Socket) (a : Answer) → OneOf notOpened (tagOf answer-type a) → ls ≡ invited ls s a
+invited-other ls s (A.Refused r) o = refl
+invited-other ls s A.AcknowledgeAgain o = refl
+invited-other ls s A.Kept o = refl
+invited-other ls s A.Repeat o = refl
+invited-other ls s (A.Delivered n t) o = refl
+invited-other ls s A.Opened o = absurd (miss notOpened 5 tt o)
+invited-other ls s A.Already o = refl
+invited-other ls s (A.Closed reason) o = refl
+invited-other ls s A.Acknowledged o = refl
+invited-other ls s (A.Sending t last) o = refl
+invited-other ls s A.Done o = refl
+
+-- answers of a local Close that is not done
+abbrev notDone : List ℕ
+notDone = 0 ∷ 1 ∷ 2 ∷ 3 ∷ 4 ∷ 5 ∷ 6 ∷ 7 ∷ 8 ∷ 9 ∷ []
+
+pub closed-other : (e : StationEnd) (reason : ℕ) (ls : List Link) (a : Answer) → OneOf notDone (tagOf answer-type a) → e ≡ closedBy e reason ls a
+closed-other e reason ls (A.Refused r) o = refl
+closed-other e reason ls A.AcknowledgeAgain o = refl
+closed-other e reason ls A.Kept o = refl
+closed-other e reason ls A.Repeat o = refl
+closed-other e reason ls (A.Delivered n t) o = refl
+closed-other e reason ls A.Opened o = refl
+closed-other e reason ls A.Already o = refl
+closed-other e reason ls (A.Closed other) o = refl
+closed-other e reason ls A.Acknowledged o = refl
+closed-other e reason ls (A.Sending t last) o = refl
+closed-other e reason ls A.Done o = absurd (miss notDone 10 tt o)
 
 -- ---- what stays
 

@@ -13,7 +13,7 @@ use Rattle.links.specs.declared.LinkState.{LinkState}
 use Rattle.links.specs.declared.LinkState.the-variants as U
 use Rattle.links.specs.declared.Link.{Link}
 use Rattle.links.specs.declared.Side.the-variants.{Device}
-use Rattle.links.specs.Station.{localSend}
+use Rattle.links.specs.Station.{linkAt, localSend}
 use Rattle.link_steps.specs.declared.Stepped.{Stepped}
 use Rattle.device.specs.Calls.{recordBack, onlySocket}
 use Rattle.links.specs.declared.Answer.{Answer}
@@ -121,6 +121,6 @@ device-last U.Open h t =
 
 pub acknowledges-last : AcknowledgesLast
 acknowledges-last = record {
-  station = λ h link t. station-last (link .state) h link t;
+  station = λ e s t. station-last (linkAt (e .links) s .state) (e .host) (linkAt (e .links) s) t;
   device = λ h t. device-last (h .link .state) h t;
 }

@@ -1,18 +1,21 @@
-// The two hosts of a link in a rehearsal: what each keeps beside the link record, what it has to send, and what it notes of an answer.
+// The two ends of a link in a rehearsal, each with its host: what the host keeps beside the link record, what it has to send, what it notes of an
+// answer, and the calls that it makes.
 mod devices;
+mod ends;
 mod stations;
 
-pub use devices::device_notes;
-pub use devices::device_sending;
-pub use devices::device_sent;
 pub use devices::new_device;
+pub use ends::INVITE_LENGTH;
+pub use ends::close_answered;
+pub use ends::close_link;
+pub use ends::device_hears;
+pub use ends::device_next;
+pub use ends::open_link;
+pub use ends::station_hears;
+pub use ends::station_next;
 use links::LastDelivered;
 use links::Link;
 pub use stations::new_station;
-pub use stations::station_closes;
-pub use stations::station_notes;
-pub use stations::station_sending;
-pub use stations::station_sent;
 use transactions::TransactionNumber;
 ghost use mathlib.Core.Path.{_≡_};
 ghost use Rattle.rehearsal_hosts.specs.Hosts.{oneMore, oneFewer, acknowledgementOf, openSending};
@@ -23,6 +26,12 @@ pub struct StationHost {
     pub acknowledgements: u32,
     pub closes: u32,
     pub reason: u8,
+}
+
+// The station at a socket: its records, and what the host of the socket keeps.
+pub struct StationEnd {
+    pub links: [Link; 8],
+    pub host: StationHost,
 }
 
 // A device, and what its host keeps.
@@ -51,6 +60,18 @@ pub enum Sending {
         number: TransactionNumber,
         index: u16,
     },
+}
+
+// The station at a socket after it sent a frame, and the frame.
+pub struct StationNext {
+    pub end: StationEnd,
+    pub sending: Sending,
+}
+
+// A device after it sent a frame, and the frame.
+pub struct DeviceNext {
+    pub host: DeviceHost,
+    pub sending: Sending,
 }
 
 // One more is due.

@@ -1,25 +1,13 @@
-// The two ends of a link, as they hear frames that the channel brings, and the station's local calls.
+// Frames that the channel brings to an end, or does not.
 use super::log;
 use lines::Streams;
-use links::Answer;
-use links::LastDelivered;
-use links::Link;
 use lossy_channel::Fate;
 use octets::LONGEST_MESSAGE;
 use rehearsal_hosts::DeviceHost;
-use rehearsal_hosts::StationHost;
+use rehearsal_hosts::StationEnd;
 use transactions::Socket;
 
-// The station closes as one that did not provision the module.
-const FAILED: u8 = 2;
-
-// The station at a socket: its records, and the host of the socket.
-pub struct StationEnd {
-    pub links: [Link; 8],
-    pub host: StationHost,
-}
-
-// The same with how far its log has come.
+// The station at a socket, and how far its log has come.
 pub struct Logged {
     pub end: StationEnd,
     pub streams: Streams,
@@ -53,17 +41,12 @@ fn device_hears(before: DeviceHost, socket: Socket, areas: &mut [u8], frame: &[u
     if areas.len() < from + LONGEST_MESSAGE {
         return before;
     }
-    let stepped = device::receive(
-        before.link,
+    rehearsal_hosts::device_hears(
+        before,
         &uuid_of(socket),
         &mut areas[from..from + LONGEST_MESSAGE],
         frame,
-    );
-    let link = stepped.link;
-    let answer = stepped.answer;
-    let mut host = before;
-    host.link = link;
-    rehearsal_hosts::device_notes(host, answer)
+    )
 }
 
 // A frame comes to a device, or does not.
@@ -84,28 +67,7 @@ pub fn to_device(
     }
 }
 
-// The station begins to send the Invite once a link is open.
-fn invite(links: [Link; 8], socket: Socket, answer: Answer) -> [Link; 8] {
-    let Answer::Opened = answer else {
-        return links;
-    };
-    let called = local_calls::send(links, socket, super::INVITE.len());
-    called.links
-}
-
-// The station hears a frame of the module at a socket.
-fn station_hears(before: StationEnd, socket: Socket, area: &mut [u8], frame: &[u8]) -> StationEnd {
-    let links = before.links;
-    let received = station::receive(links, area, frame);
-    let after = received.links;
-    let answer = received.answer;
-    StationEnd {
-        links: invite(after, socket, answer),
-        host: rehearsal_hosts::station_notes(before.host, answer),
-    }
-}
-
-// It has that in its log.
+// The station hears a frame, and has it in its log.
 fn log_heard(
     before: Logged,
     socket: Socket,
@@ -115,7 +77,7 @@ fn log_heard(
 ) -> Logged {
     let streams = log::put_heard(before.streams, frame, output);
     Logged {
-        end: station_hears(before.end, socket, area, frame),
+        end: rehearsal_hosts::station_hears(before.end, socket, area, frame),
         streams: streams,
     }
 }
@@ -137,34 +99,4 @@ pub fn to_station(
             log_heard(once, socket, area, frame, output)
         }
     }
-}
-
-// Closes a socket's link, with a reason.
-pub fn close_link(before: StationEnd, socket: Socket, reason: u8) -> StationEnd {
-    let links = before.links;
-    let called = local_calls::close(links, socket);
-    let after = called.links;
-    let answer = called.answer;
-    let Answer::Done = answer else {
-        return before;
-    };
-    StationEnd {
-        links: after,
-        host: rehearsal_hosts::station_closes(before.host, reason),
-    }
-}
-
-// Closes a link on which the module has answered and no acknowledgement is due.
-pub fn close_answered(before: StationEnd, socket: Socket) -> StationEnd {
-    let links = before.links;
-    let link = link_records::link_at(links, socket.place());
-    let last = link.last;
-    let host = before.host;
-    let LastDelivered::Number(_) = last else {
-        return before;
-    };
-    if 0 < host.acknowledgements {
-        return before;
-    }
-    close_link(before, socket, FAILED)
 }

@@ -22,9 +22,6 @@ ghost use lib.ListN.{length};
 // Turns of a rehearsal: 4,000 of either end at each socket, if they go round.
 const TURNS: u32 = 64000;
 
-// What the station asks with: an Invite, with no attention.
-const INVITE: [u8; 2] = [0, 0];
-
 // How far the program has come in its input.
 struct Reading {
     given: Given,
@@ -91,19 +88,16 @@ fn take_module(
     }
 }
 
-// Takes a line.
-fn take_line(
+// What a line says, and the message that it may have.
+fn take_said(
     before: Taken,
     number: u64,
-    line: &[u8],
+    said: Line,
+    message: &[u8],
     messages: &mut [u8],
     output: &mut [u8],
 ) -> Taken {
-    if is_long(line) {
-        return refuse(before, number, output);
-    }
-    let mut message = [0u8; LONGEST_MESSAGE];
-    match rehearsal_lines::read_line(line, &mut message) {
+    match said {
         Line::Passed => before,
         Line::Other => refuse(before, number, output),
         Line::Channel {
@@ -116,9 +110,25 @@ fn take_line(
         }
         Line::Module { socket, id, length } => {
             let module = Module { id, length };
-            take_module(before, number, socket, module, &message, messages, output)
+            take_module(before, number, socket, module, message, messages, output)
         }
     }
+}
+
+// Takes a line.
+fn take_line(
+    before: Taken,
+    number: u64,
+    line: &[u8],
+    messages: &mut [u8],
+    output: &mut [u8],
+) -> Taken {
+    if is_long(line) {
+        return refuse(before, number, output);
+    }
+    let mut message = [0u8; LONGEST_MESSAGE];
+    let said = rehearsal_lines::read_line(line, &mut message);
+    take_said(before, number, said, &message, messages, output)
 }
 
 // Reads on as far as a line's end, or the end of what is there.
@@ -260,6 +270,26 @@ fn next_turn(mixed: bool, drawn: u32, turn: u32) -> u32
     if mixed { drawn % 16 } else { turn % 16 }
 }
 
+// The turn of an end, by its number of 16.
+fn serve_end(
+    before: Tray,
+    modules: [Module; 8],
+    number: u32,
+    area: &mut [u8],
+    areas: &mut [u8],
+    messages: &[u8],
+    output: &mut [u8],
+) -> Tray
+    requires { ⌜ number < 16 ⌝ }
+{
+    let socket = Socket((number / 2 + 1) as u8);
+    let module = given::module_at(modules, socket.place());
+    if number % 2 == 0 {
+        return turns::station_turn(before, socket, module.id, areas, output);
+    }
+    turns::device_turn(before, socket, module, area, messages, output)
+}
+
 // One turn.
 fn serve(
     before: Tray,
@@ -271,15 +301,10 @@ fn serve(
     output: &mut [u8],
 ) -> Tray {
     let channel = lossy_channel::draw(before.channel);
-    let tray = tray::with_progress(before, channel, before.streams);
-    let next = next_turn(given.mixed, channel.number, turn);
-    let socket = Socket((next / 2 + 1) as u8);
+    let drawn = tray::with_progress(before, channel, before.streams);
+    let number = next_turn(given.mixed, channel.number, turn);
     let modules = given.modules;
-    let module = given::module_at(modules, socket.place());
-    if next % 2 == 0 {
-        return turns::station_turn(tray, socket, module.id, areas, output);
-    }
-    turns::device_turn(tray, socket, module, area, messages, output)
+    serve_end(drawn, modules, number, area, areas, messages, output)
 }
 
 // Turns until all is closed, or there were enough.
@@ -316,14 +341,27 @@ fn give_up_rest(before: Tray, modules: [Module; 8], areas: &mut [u8], output: &m
     tray
 }
 
+// From the openings to the last Close.
+fn run_tray(
+    new: Tray,
+    given: Given,
+    area: &mut [u8],
+    areas: &mut [u8],
+    messages: &[u8],
+    output: &mut [u8],
+) -> Tray {
+    let modules = given.modules;
+    let opened = open_all(new, modules, output);
+    let served = take_turns(opened, given, area, areas, messages, output);
+    give_up_rest(served, modules, areas, output)
+}
+
 fn rehearse(given: Given, streams: Streams, messages: &[u8], output: &mut [u8]) -> Streams {
     let mut area = [0u8; AREA_LENGTH];
     let mut areas = [0u8; AREA_LENGTH];
     let modules = given.modules;
     let new = tray::new_tray(modules, given.channel, streams);
-    let opened = open_all(new, modules, output);
-    let served = take_turns(opened, given, &mut area, &mut areas, messages, output);
-    let closed = give_up_rest(served, modules, &mut areas, output);
+    let closed = run_tray(new, given, &mut area, &mut areas, messages, output);
     closed.streams
 }
 

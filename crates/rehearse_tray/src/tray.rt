@@ -1,10 +1,10 @@
 // The tray of a rehearsal: the station's records, and the hosts of both ends at each socket.
-use super::ends::StationEnd;
 use super::given::Module;
 use lines::Streams;
 use links::Link;
 use lossy_channel::Channel;
 use rehearsal_hosts::DeviceHost;
+use rehearsal_hosts::StationEnd;
 use rehearsal_hosts::StationHost;
 use rehearsal_hosts::new_device;
 use rehearsal_hosts::new_station;

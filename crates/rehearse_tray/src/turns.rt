@@ -1,30 +1,21 @@
 // The turns of the ends: an end sends one frame, if it has one to send, and the channel brings it to the other end, or does not.
 use super::ends;
 use super::ends::Logged;
-use super::ends::StationEnd;
 use super::given::Module;
 use super::log;
 use super::tray;
 use super::tray::Tray;
 use octets::LONGEST_MESSAGE;
 use octets::Written;
+use rehearsal_hosts::INVITE_LENGTH;
 use rehearsal_hosts::Sending;
+use rehearsal_hosts::StationEnd;
 use transactions::Socket;
 ghost use Prim.Native.Nat.{_≤_};
 ghost use lib.ListN.{length};
 
 // The station closes as one whose module did not answer in time.
 const TIMED_OUT: u8 = 1;
-
-// How many octets were written to a frame.
-fn count_of(answer: Written, frame: &[u8]) -> usize
-    ensures { λ r. ⌜ r ≤ length (now (frame .entry)) ⌝ }
-{
-    let Written::Count(n) = answer else {
-        return 0;
-    };
-    if n <= frame.len() { n } else { 0 }
-}
 
 // The octets of a frame that is to be sent.
 fn write_sending(
@@ -48,20 +39,31 @@ fn write_sending(
     }
 }
 
+// How many octets were written to a frame.
+fn count_of(answer: Written, frame: &[u8]) -> usize
+    ensures { λ r. ⌜ r ≤ length (now (frame .entry)) ⌝ }
+{
+    let Written::Count(n) = answer else {
+        return 0;
+    };
+    if n <= frame.len() { n } else { 0 }
+}
+
+// The frame that is to be sent; how many octets it has.
+fn frame_of(sending: Sending, id: u32, socket: Socket, message: &[u8], frame: &mut [u8]) -> usize
+    ensures { λ r. ⌜ r ≤ length (now (frame .exit)) ⌝ }
+{
+    let answer = write_sending(sending, id, socket, message, frame);
+    count_of(answer, frame)
+}
+
 // Opens a socket that has a module.
 pub fn open_socket(before: Tray, socket: Socket, module: Module, output: &mut [u8]) -> Tray {
     if module.length == 0 {
         return before;
     }
     let end = tray::station_at(before, socket.place());
-    let links = end.links;
-    let host = end.host;
-    let called = local_calls::open(links, socket, module.id);
-    let after = called.links;
-    let opened = StationEnd {
-        links: after,
-        host: host,
-    };
+    let opened = rehearsal_hosts::open_link(end, socket, module.id);
     let streams = log::put_opening(before.streams, socket, module.id, output);
     let on = tray::with_progress(before, before.channel, streams);
     tray::with_station(on, socket.place(), opened)
@@ -93,17 +95,13 @@ fn station_sends(
     areas: &mut [u8],
     output: &mut [u8],
 ) -> Tray {
-    let links = end.links;
-    let link = link_records::link_at(links, socket.place());
-    let sending = rehearsal_hosts::station_sending(end.host, link);
+    let next = rehearsal_hosts::station_next(end, socket);
+    let after = tray::with_station(before, socket.place(), next.end);
+    // An Invite, for no attention.
+    let invite = [0u8; INVITE_LENGTH];
     let mut frame = [0u8; 29];
-    let answer = write_sending(sending, id, socket, &super::INVITE, &mut frame);
-    let count = count_of(answer, &frame);
-    let sent = StationEnd {
-        links: links,
-        host: rehearsal_hosts::station_sent(end.host, sending),
-    };
-    let after = tray::with_station(before, socket.place(), sent);
+    let sending = next.sending;
+    let count = frame_of(sending, id, socket, &invite, &mut frame);
     if count == 0 {
         return after;
     }
@@ -119,14 +117,14 @@ pub fn station_turn(
     output: &mut [u8],
 ) -> Tray {
     let end = tray::station_at(before, socket.place());
-    let closed = ends::close_answered(end, socket);
+    let closed = rehearsal_hosts::close_answered(end, socket);
     station_sends(before, socket, id, closed, areas, output)
 }
 
 // The station gives a socket up: it closes the link, and sends a Close that is due.
 pub fn give_up(before: Tray, socket: Socket, id: u32, areas: &mut [u8], output: &mut [u8]) -> Tray {
     let end = tray::station_at(before, socket.place());
-    let closed = ends::close_link(end, socket, TIMED_OUT);
+    let closed = rehearsal_hosts::close_link(end, socket, TIMED_OUT);
     station_sends(before, socket, id, closed, areas, output)
 }
 
@@ -151,6 +149,27 @@ fn send_to_station(
     tray::with_progress(after, carried.channel, heard.streams)
 }
 
+// A device sends what it has to send, of its message or else.
+fn device_sends(
+    before: Tray,
+    socket: Socket,
+    id: u32,
+    message: &[u8],
+    area: &mut [u8],
+    output: &mut [u8],
+) -> Tray {
+    let place = socket.place();
+    let next = rehearsal_hosts::device_next(tray::device_at(before, place));
+    let after = tray::with_device(before, place, next.host);
+    let mut frame = [0u8; 29];
+    let sending = next.sending;
+    let count = frame_of(sending, id, socket, message, &mut frame);
+    if count == 0 {
+        return after;
+    }
+    send_to_station(after, socket, area, &frame[..count], output)
+}
+
 // The turn of the device at a socket. The messages stand at their sockets' places.
 pub fn device_turn(
     before: Tray,
@@ -168,19 +187,6 @@ pub fn device_turn(
     if messages.len() - from < length {
         return before;
     }
-    let host = tray::device_at(before, socket.place());
-    let sending = rehearsal_hosts::device_sending(host);
     let message = &messages[from..from + length];
-    let mut frame = [0u8; 29];
-    let answer = write_sending(sending, module.id, socket, message, &mut frame);
-    let count = count_of(answer, &frame);
-    let after = tray::with_device(
-        before,
-        socket.place(),
-        rehearsal_hosts::device_sent(host, sending),
-    );
-    if count == 0 {
-        return after;
-    }
-    send_to_station(after, socket, area, &frame[..count], output)
+    device_sends(before, socket, module.id, message, area, output)
 }
