@@ -36,7 +36,7 @@ def stored(path):
 
 def modules_of(text):
     """The modules of a stored tray, as text: the Link ID and the message by socket."""
-    found = re.findall(r"^([1-8]) (\w{8}) (\w+)$", text.decode("ascii").upper(), re.MULTILINE)
+    found = re.findall(r"^([1-8]) (\w{8}) (\w+)$", text.decode("latin-1").upper(), re.MULTILINE)
     return {socket: (link_id, message) for socket, link_id, message in found}
 
 
@@ -186,22 +186,23 @@ class Turns(unittest.TestCase):
 
 
 class Stored(unittest.TestCase):
-    def assert_records(self, tray, log):
-        """Each module's message is the record of its socket."""
+    def assert_records(self, tray, log, sockets):
+        """The modules at these sockets answer with Capabilities, and each message is the record of its socket."""
         modules = modules_of(tray)
+        answering = [socket for socket, (_, message) in sorted(modules.items()) if message[:2] == "01" and len(message) == 24]
+        self.assertEqual(answering, list(sockets))
         records = sorted((row for row in table(log) if row["what"] == "record"), key=lambda row: row["socket"])
-        self.assertEqual(sorted(modules), SOCKETS)
-        wanted = [record_by_hand(socket, *modules[socket]) for socket in SOCKETS]
+        wanted = [record_by_hand(socket, *modules[socket]) for socket in answering]
         self.assertEqual([{name: value for name, value in row.items() if name != "line"} for row in records], wanted)
 
     def test_without_a_channel(self):
         log = stored("crates/rehearse_tray/stdout")
-        self.assert_records(stored("crates/rehearse_tray/stdin"), log)
+        self.assert_records(stored("crates/rehearse_tray/stdin"), log, SOCKETS)
         self.assertEqual(Counter(row["what"] for row in table(log)), {"record": 8, "end": 1})
 
     def test_losses(self):
         log = stored("tests/rehearsals/losses.log")
-        self.assert_records(stored("tests/rehearsals/losses.txt"), log)
+        self.assert_records(stored("tests/rehearsals/losses.txt"), log, SOCKETS)
         self.assertEqual(unexplained(log, table(log)), [])
 
     def test_messages(self):
@@ -210,6 +211,7 @@ class Stored(unittest.TestCase):
         self.assertEqual({socket: (message[:2], len(message) // 2) for socket, message in messages.items()},
                          {"1": ("03", 65), "3": ("40", 1469), "4": ("01", 11), "5": ("09", 2), "7": ("01", 12), "8": ("0A", 1)})
         log = stored("tests/rehearsals/messages.log")
+        self.assert_records(stored("tests/rehearsals/messages.txt"), log, "7")
         rows = table(log)
         self.assertEqual({socket: (row["what"], row["refusal"], row["message"], row["number"]) for socket, row in delivered(rows).items()},
                          {"1": ("message", "", "Public Key", "0x80"), "3": ("refused", "42", "", "0x80"), "4": ("refused", "44", "", "0x80"),
@@ -218,6 +220,14 @@ class Stored(unittest.TestCase):
                          {"missing": list("13458"), "unopened": list("26")})
         self.assertEqual(unexplained(log, rows), [])
         self.assertEqual({row["refusal"] for row in rows}, {"", "3", "6", "42", "43", "44"})
+
+    def test_lines(self):
+        """The modules of the lines that are not refused."""
+        lines = stored("tests/rehearsals/lines.txt").replace(b"\r\n", b"\n").split(b"\n")
+        taken = b"\n".join(line for number, line in enumerate(lines, 1) if number not in REFUSED_LINES)
+        log = stored("tests/rehearsals/lines.log")
+        self.assert_records(taken, log, "28")
+        self.assertEqual(unexplained(log, table(log)), [])
 
     def test_runs(self):
         """The script that compares the program with the stored logs: silent if it writes them, and else not."""
@@ -229,10 +239,12 @@ class Stored(unittest.TestCase):
     def run_with(self, change):
         with tempfile.TemporaryDirectory() as folder:
             path = pathlib.Path(folder) / "program"
+            importer = pathlib.Path(folder) / "importer"
             if change:
                 write_program(path, "rehearsal", "rehearse", change)
-            finished = subprocess.run([sys.executable, str(TESTS / "stored_runs"), "--rehearse_tray", str(path)], stdout=subprocess.PIPE,
-                                      stderr=subprocess.STDOUT, check=False)
+            write_program(importer, "import_program", "answer_log", "text")
+            finished = subprocess.run([sys.executable, str(TESTS / "stored_runs"), "--rehearse_tray", str(path), "--import_capabilities", str(importer)],
+                                      stdout=subprocess.PIPE, stderr=subprocess.STDOUT, check=False)
         return finished.returncode, finished.stdout.decode("ascii")
 
 
@@ -292,6 +304,15 @@ class Channel(unittest.TestCase):
             messages = {socket: capabilities(socket) + bytes(88 * (socket & 1)) for socket in range(1, 9)}
             rows = table(rehearse(tray_text(messages, seed, 0, 100 - 2 * seed)))
             self.assertEqual(sorted(row["refusal"] for row in rows), [""] * 9 + ["44"] * 4)
+
+    def test_no_channel(self):
+        """Without one nothing is refused but by the reader, whatever the messages are."""
+        for seed in range(40):
+            chance = Chance(seed)
+            rows = table(rehearse(tray_text({socket: good_message(chance, chance.below(10)) for socket in range(1, 2 + seed % 8)})))
+            self.assertEqual([row for row in rows if row["what"] == "refused"], [])
+        rows = table(rehearse(tray_text({socket: b"\x40" + bytes(1468) for socket in range(1, 9)})))
+        self.assertEqual([row["refusal"] for row in rows if row["what"] == "refused"], ["42"] * 8)
 
     def test_all_is_lost(self):
         """The turns end: an Open in each turn of the station, counted here from the numbers themselves, and then the Closes."""

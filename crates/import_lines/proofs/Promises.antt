@@ -14,7 +14,7 @@ use Rattle.hex.specs.Hex.{isHexadecimal, valueOf, textOf}
 use Rattle.hex.proofs.Laws.{length-text, text-hexadecimal, octets-back}
 use Rattle.transactions.specs.Numbers.{isSocket}
 use Rattle.transactions.specs.declared.Socket.{Socket}
-use Rattle.log_lines.specs.Lines.{isFrame, isOpening, beginsOpening, idIn, openingLine, heardLine, sentLine as sentText}
+use Rattle.log_lines.specs.Lines.{isFrame, isOpening, beginsOpening, idIn, openingText, heardText, sentText}
 use Rattle.import_tray.specs.declared.Tray.{Tray}
 use Rattle.import_frames.specs.Heard.{heardStep, heardArea}
 use Rattle.import_frames.specs.Sent.{sentStep}
@@ -38,7 +38,7 @@ module _ (frame : List ℕ) (o : Octets frame) (some : 1 ≤ length frame) where
   is-frame = rw (text-hexadecimal frame o, le-leb 2 (length (textOf frame)) (omega (arith, length-text frame)))
 
   module _ (tray : Tray) (area : List ℕ) (number : ℕ) where
-    heard-so : (lineStep tray area number (heardLine frame) ≡ heardStep tray area number frame) × (lineArea tray area (heardLine frame) ≡ heardArea tray area frame)
+    heard-so : (lineStep tray area number (heardText frame) ≡ heardStep tray area number frame) × (lineArea tray area (heardText frame) ≡ heardArea tray area frame)
     unfolding lineStep lineArea
     heard-so = rw (is-frame, octets-back frame o) (refl, refl)
 
@@ -54,17 +54,17 @@ module _ (s : Socket) (right : isSocket s 8 ≡ true) where
   socket-back = omega arith
 
   module _ (id : ℕ) (h : id < 4294967296) where
-    is-opening : isOpening (openingLine s id) ≡ true
+    is-opening : isOpening (openingText s id) ≡ true
     unfolding beginsOpening
     is-opening =
         rw (le-leb 49 (48 + s .0) (omega (arith, first-so)), le-leb (48 + s .0) 56 (omega (arith, first-so)))
         (both-hold {a = eqb (length (textOf (octets32 id)) % 2) 0} (text-hexadecimal (octets32 id) (four-octets id h)) .1)
 
-    id-in : idIn (openingLine s id) ≡ id
+    id-in : idIn (openingText s id) ≡ id
     id-in = ap (λ (l : List ℕ). big32 l 0) (octets-back (octets32 id) (four-octets id h)) ∙ number-back id
 
     module _ (tray : Tray) (area : List ℕ) (number : ℕ) where
-      opening-so : (lineStep tray area number (openingLine s id) ≡ openedStep tray number s id) × (lineArea tray area (openingLine s id) ≡ area)
+      opening-so : (lineStep tray area number (openingText s id) ≡ openedStep tray number s id) × (lineArea tray area (openingText s id) ≡ area)
       unfolding lineStep lineArea unheardStep otherStep
       opening-so =
           rw (spaced (48 + s .0) (textOf (octets32 id)), ne-eqb (48 + s .0) 62 (λ e. omega (arith, first-so)), is-opening, socket-back, id-in)

@@ -47,14 +47,14 @@ isPassed line = eqb (length line) 0 || eqb (getD line 0 0) 35
 
 -- ---- what is written, each line without its newline
 
-abbrev pub openingLine : Socket → ℕ → List ℕ
-openingLine s id = (48 + s .0) ∷ 32 ∷ textOf (octets32 id)
+abbrev pub openingText : Socket → ℕ → List ℕ
+openingText s id = (48 + s .0) ∷ 32 ∷ textOf (octets32 id)
 
-abbrev pub heardLine : List ℕ → List ℕ
-heardLine frame = textOf frame
+abbrev pub heardText : List ℕ → List ℕ
+heardText frame = textOf frame
 
-abbrev pub sentLine : List ℕ → List ℕ
-sentLine frame = 62 ∷ textOf frame
+abbrev pub sentText : List ℕ → List ℕ
+sentText frame = 62 ∷ textOf frame
 
 abbrev pub ended : List ℕ → List ℕ
 ended line = line ++ (10 ∷ [])

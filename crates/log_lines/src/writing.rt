@@ -6,12 +6,12 @@ ghost use lib.Dec.{leb};
 ghost use lib.ListN.{length};
 ghost use Rattle.octets.specs.Writing.{written, outputAfter};
 ghost use Rattle.transactions.specs.Numbers.{isSocket};
-ghost use Rattle.log_lines.specs.Lines.{openingLine, heardLine, sentLine, ended};
+ghost use Rattle.log_lines.specs.Lines.{openingText, heardText, sentText, ended};
 
 // Writes the opening of a socket, 1 to 8, with its Link ID.
 pub fn write_opening(socket: Socket, id: u32, output: &mut [u8]) -> Written
-    ensures { λ r. ⌜ (r ≡ written (isSocket socket 8) (ended (openingLine socket id)) (now (output .entry)))
-        × (now (output .exit) ≡ outputAfter (isSocket socket 8) (ended (openingLine socket id)) (now (output .entry))) ⌝ }
+    ensures { λ r. ⌜ (r ≡ written (isSocket socket 8) (ended (openingText socket id)) (now (output .entry)))
+        × (now (output .exit) ≡ outputAfter (isSocket socket 8) (ended (openingText socket id)) (now (output .entry))) ⌝ }
 {
     if socket.is_one_of(8) {
         let digit = 48 + socket.0;
@@ -23,8 +23,8 @@ pub fn write_opening(socket: Socket, id: u32, output: &mut [u8]) -> Written
 
 // Writes a frame as it was heard, of one octet or more.
 pub fn write_heard(frame: &[u8], output: &mut [u8]) -> Written
-    ensures { λ r. ⌜ (r ≡ written (leb 1 (length (now (frame .entry)))) (ended (heardLine (now (frame .entry)))) (now (output .entry)))
-        × (now (output .exit) ≡ outputAfter (leb 1 (length (now (frame .entry)))) (ended (heardLine (now (frame .entry)))) (now (output .entry))) ⌝ }
+    ensures { λ r. ⌜ (r ≡ written (leb 1 (length (now (frame .entry)))) (ended (heardText (now (frame .entry)))) (now (output .entry)))
+        × (now (output .exit) ≡ outputAfter (leb 1 (length (now (frame .entry)))) (ended (heardText (now (frame .entry)))) (now (output .entry))) ⌝ }
 {
     if frame.len() == 0 {
         return Written::WrongArgument;
@@ -34,8 +34,8 @@ pub fn write_heard(frame: &[u8], output: &mut [u8]) -> Written
 
 // Writes a frame as it was sent, of one octet or more.
 pub fn write_sent(frame: &[u8], output: &mut [u8]) -> Written
-    ensures { λ r. ⌜ (r ≡ written (leb 1 (length (now (frame .entry)))) (ended (sentLine (now (frame .entry)))) (now (output .entry)))
-        × (now (output .exit) ≡ outputAfter (leb 1 (length (now (frame .entry)))) (ended (sentLine (now (frame .entry)))) (now (output .entry))) ⌝ }
+    ensures { λ r. ⌜ (r ≡ written (leb 1 (length (now (frame .entry)))) (ended (sentText (now (frame .entry)))) (now (output .entry)))
+        × (now (output .exit) ≡ outputAfter (leb 1 (length (now (frame .entry)))) (ended (sentText (now (frame .entry)))) (now (output .entry))) ⌝ }
 {
     if frame.len() == 0 {
         return Written::WrongArgument;

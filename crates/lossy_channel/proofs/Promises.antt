@@ -1,12 +1,12 @@
 -- The promises of `specs/Promises.antt`.
 use Prim.Native.Nat.{ℕ, _+_, _*_, _/_, _%_, _≤_}
 use native.Mathlib.Omega.{arith}
-use mathlib.Core.Path.{_≡_}
+use mathlib.Core.Path.{_≡_, refl}
 use lib.Dec.{leb, ltb}
 use borrow.Author.Tests.{leb-true, leb-false, lt-ltb, le-ltb}
 use Rattle.octets.proofs.Tests.{cases}
-use Rattle.lossy_channel.specs.Channels.{numberAfter, carried}
-use Rattle.lossy_channel.specs.Promises.{IsDrawn, NeverStuck, Extremes}
+use Rattle.lossy_channel.specs.Channels.{drawnAfter, carried}
+use Rattle.lossy_channel.specs.Promises.{IsDrawn, NeverZero, Extremes, Fates, Published}
 use Rattle.lossy_channel.specs.declared.Channel.{Channel}
 use Rattle.lossy_channel.specs.declared.Fate.the-variants.{Lost, Once, Twice}
 
@@ -15,25 +15,25 @@ no-multiple : (n a b : ℕ) → IsDrawn n → n + 2147483647 * a ≡ 2147483647 
 no-multiple n a b h e = cases (leb b a) (λ q. omega (arith, leb-true b a q)) (λ q. omega (arith, leb-false b a q))
 
 -- the multiplier has an inverse, since 48271 * 1899818559 is 1 + 42704 * 2147483647; so only a multiple of the modulus leads to one
-after-drawn : (n : ℕ) → IsDrawn n → IsDrawn (numberAfter n)
+after-drawn : (n : ℕ) → IsDrawn n → IsDrawn (drawnAfter n)
 after-drawn n h =
     cases (leb 1 (n * 48271 % 2147483647))
     (λ q. (omega (arith, leb-true 1 (n * 48271 % 2147483647) q), omega arith))
     (λ q. absurd (no-multiple n (42704 * n) (1899818559 * (n * 48271 / 2147483647)) h (omega (arith, leb-false 1 (n * 48271 % 2147483647) q))))
 
-pub never-stuck : NeverStuck
-never-stuck = record {
+pub never-zero : NeverZero
+never-zero = record {
   new = λ seed lost repeated. (omega arith, omega arith);
   draw = λ c h. after-drawn (c .number) h;
-  carry = λ c h. after-drawn (numberAfter (c .number)) (after-drawn (c .number) h);
+  carry = λ c h. after-drawn (drawnAfter (c .number)) (after-drawn (c .number) h);
 }
 
 module _ (c : Channel) where
   abbrev first : ℕ
-  first = numberAfter (c .number)
+  first = drawnAfter (c .number)
 
   abbrev second : ℕ
-  second = numberAfter first
+  second = drawnAfter first
 
   loses-none : c .lost ≡ 0 → carried c .fate ≡ Lost → ⊥
   loses-none h =
@@ -62,3 +62,14 @@ module _ (c : Channel) where
 
 pub extremes : Extremes
 extremes = record { loses-none = loses-none; loses-all = loses-all; repeats-none = repeats-none; repeats-all = repeats-all }
+
+pub fates : Fates
+fates c = record {
+  lost = λ l. rw (lt-ltb (first c % 100) (c .lost) l);
+  twice = λ l r. rw (le-ltb (first c % 100) (c .lost) l, lt-ltb (second c % 100) (c .repeated) r);
+  once = λ l r. rw (le-ltb (first c % 100) (c .lost) l, le-ltb (second c % 100) (c .repeated) r);
+  after = refl;
+}
+
+pub published : Published
+published = record { first = refl; second = refl }

@@ -11,14 +11,14 @@ use Rattle.lossy_channel.specs.declared.Carried.{Carried}
 abbrev pub firstNumber : ℕ → ℕ
 firstNumber seed = seed % 2147483646 + 1
 
-abbrev pub numberAfter : ℕ → ℕ
-numberAfter n = n * 48271 % 2147483647
+abbrev pub drawnAfter : ℕ → ℕ
+drawnAfter n = n * 48271 % 2147483647
 
 abbrev pub newChannel : ℕ → ℕ → ℕ → Channel
 newChannel seed lost repeated = record { number = firstNumber seed; lost = lost; repeated = repeated }
 
 abbrev pub drawn : Channel → Channel
-drawn c = record { number = numberAfter (c .number); lost = c .lost; repeated = c .repeated }
+drawn c = record { number = drawnAfter (c .number); lost = c .lost; repeated = c .repeated }
 
 -- "Of each hundred frames on their way, in the mean, LOST are lost, and of each hundred others REPEATED come twice": the fate by two numbers
 abbrev pub fateOf : Channel → ℕ → ℕ → Fate

@@ -1,10 +1,12 @@
 -- The promises of `specs/Promises.antt`.
-use Prim.Native.Nat.{ℕ, _≤_}
+use Prim.Native.Nat.{ℕ, _+_, _≤_, _<_}
 use native.Mathlib.Omega.{arith}
 use mathlib.Core.List.{[], _∷_}
-use mathlib.Core.Path.{_≡_, refl}
+use mathlib.Core.Bool.{false}
+use mathlib.Core.Logic.{_⊎_, inl, inr}
+use mathlib.Core.Path.{_≡_, refl, _∙_}
 use lib.Dec.{leb}
-use borrow.Author.Tests.{leb-true}
+use borrow.Author.Tests.{leb-true, le-leb, lt-leb, lt-ltb, le-ltb}
 use Rattle.octets.proofs.Tests.{cases}
 use Rattle.transactions.specs.declared.TransactionNumber.{TransactionNumber}
 use Rattle.links.specs.declared.LastDelivered.{LastDelivered}
@@ -18,15 +20,21 @@ use Rattle.link_steps.specs.declared.Stepped.{Stepped}
 use Rattle.device.specs.Calls.{recordBack, onlySocket}
 use Rattle.links.specs.declared.Answer.{Answer}
 use Rattle.links.specs.declared.Answer.the-variants as A
-use Rattle.rehearsal_hosts.specs.Hosts.{oneMore, acknowledgementOf, openSending, stationSendingIn, stationNotes, withAcknowledgements, deviceSendingIn, begun, deviceNotes}
-use Rattle.rehearsal_hosts.specs.Promises.{AcknowledgedAlone, BothAcknowledgeAlone, AckAfterBoth, AcknowledgesLast}
+use Rattle.rehearsal_hosts.specs.Hosts.{oneMore, oneFewer, acknowledgementOf, openSending, stationSendingIn, stationNotes, withAcknowledgements, deviceSendingIn, begun, deviceNotes}
+use Rattle.rehearsal_hosts.specs.Promises.{BothAcknowledgeAlone, AckAfterBoth, AcknowledgesLast, StationSends, DeviceSends, SendsWhatIsDue}
+use Rattle.rehearsal_hosts.specs.Ends.{answeredBy, stationNext}
+use Rattle.rehearsal_hosts.specs.declared.StationEnd.{StationEnd}
+use Rattle.transactions.specs.declared.Socket.{Socket}
 use Rattle.rehearsal_hosts.specs.declared.StationHost.{StationHost}
 use Rattle.rehearsal_hosts.specs.declared.DeviceHost.{DeviceHost}
 use Rattle.rehearsal_hosts.specs.declared.Sending.{Sending}
-use Rattle.rehearsal_hosts.specs.declared.Sending.the-variants.{Acknowledgement}
+use Rattle.rehearsal_hosts.specs.declared.Sending.the-variants.{Close, Acknowledgement}
 use Rattle.rehearsal_hosts.proofs.Laws.{refused-same, begun-same}
 
 -- ---- what is due
+
+counted : (due : ℕ) → due < 4294967295 → oneMore due ≡ due + 1
+counted due few = rw (lt-ltb due 4294967295 few)
 
 station-same : (h : StationHost) (a : Answer) → ((n : ℕ) (t : TransactionNumber) → a ≡ A.Delivered n t → ⊥) → (a ≡ A.AcknowledgeAgain → ⊥)
     → stationNotes h a .acknowledgements ≡ h .acknowledgements
@@ -66,8 +74,8 @@ begun-due h =
 
 pub both-acknowledge-alone : BothAcknowledgeAlone
 both-acknowledge-alone = (
-  λ h. record { delivered = λ n t. refl; again = refl; other = station-same h },
-  λ h. record { delivered = λ n t. begun-due h .0; again = refl; other = device-same h },
+  λ h. record { delivered = λ few n t. counted (h .acknowledgements) few; again = counted (h .acknowledgements); other = station-same h },
+  λ h. record { delivered = λ few n t. begun-due h .0 ∙ counted (h .acknowledgements) few; again = counted (h .acknowledgements); other = device-same h },
 )
 
 acks-same : (h : DeviceHost) (a : Answer) → (a ≡ A.Opened → ⊥) → (a ≡ A.Already → ⊥) → deviceNotes h a .acks ≡ h .acks
@@ -84,7 +92,7 @@ acks-same h (A.Sending t last) o y = refl
 acks-same h A.Done o y = refl
 
 pub ack-after-both : AckAfterBoth
-ack-after-both = record { opened = λ h. refl; already = λ h. refl; other = acks-same }
+ack-after-both = record { opened = λ h. counted (h .acks); already = λ h. counted (h .acks); other = acks-same }
 
 -- ---- what is sent
 
@@ -124,3 +132,53 @@ acknowledges-last = record {
   station = λ e s t. station-last (linkAt (e .links) s .state) (e .host) (linkAt (e .links) s) t;
   device = λ h t. device-last (h .link .state) h t;
 }
+
+-- ---- what is due is sent
+
+none-due : (due : ℕ) → due ≡ 0 → leb 1 due ≡ false
+none-due due none = lt-leb 1 due (omega arith)
+
+one-less : (due : ℕ) → 1 ≤ due → oneFewer due + 1 ≡ due
+one-less due some = omega arith
+
+module _ (e : StationEnd) (s : Socket) where
+  abbrev here : Link
+  here = linkAt (e .links) s
+
+  station-due : here .state ≡ U.Open → 1 ≤ e .host .acknowledgements → (t : TransactionNumber) → here .last ≡ L.Number t
+      → (stationNext e s .sending ≡ Acknowledgement t) × (stationNext e s .end .host .acknowledgements + 1 ≡ e .host .acknowledgements)
+  station-due isOpen some t last = rw (isOpen, le-leb 1 (e .host .acknowledgements) some, last) (refl, one-less (e .host .acknowledgements) some)
+
+  station-closing : here .state ≡ U.Free → 1 ≤ e .host .closes
+      → (stationNext e s .sending ≡ Close (e .host .reason)) × (stationNext e s .end .host .closes + 1 ≡ e .host .closes)
+  station-closing free some = rw (free, le-leb 1 (e .host .closes) some) (refl, one-less (e .host .closes) some)
+
+  answered-not : (last : LastDelivered) → (last ≡ L.Nothing) ⊎ (1 ≤ e .host .acknowledgements) → answeredBy e s last ≡ e
+  answered-not last (inl none) = rw none
+  answered-not L.Nothing (inr some) = refl
+  answered-not (L.Number t) (inr some) = rw (le-leb 1 (e .host .acknowledgements) some)
+
+  station-sends : StationSends e s
+  station-sends = record {
+    opening = λ opening. rw opening;
+    due = station-due;
+    outstanding = λ isOpen none out. rw (isOpen, none-due (e .host .acknowledgements) none, out);
+    closing = station-closing;
+    answered = λ t last none. rw (last, none-due (e .host .acknowledgements) none);
+    unanswered = answered-not (here .last);
+    closed = λ reason done. rw done (refl, refl);
+  }
+
+module _ (h : DeviceHost) where
+  device-sends : DeviceSends h
+  device-sends = record {
+    ack = λ isOpen some. rw (isOpen, le-leb 1 (h .acks) some) (refl, one-less (h .acks) some);
+    due = λ isOpen no some t last.
+        rw (isOpen, none-due (h .acks) no, le-leb 1 (h .acknowledgements) some, last) (refl, one-less (h .acknowledgements) some);
+    outstanding = λ isOpen no none out.
+        rw (isOpen, none-due (h .acks) no, none-due (h .acknowledgements) none, out)
+        (refl, (λ more. rw (lt-ltb (h .segment) (h .last) more)), (λ over. rw (le-ltb (h .segment) (h .last) over)));
+  }
+
+pub sends-what-is-due : SendsWhatIsDue
+sends-what-is-due = record { station = station-sends; device = device-sends; invite = λ ls s. refl }

@@ -24,7 +24,7 @@ use Rattle.rehearsal_hosts.specs.declared.Sending.the-variants.{Nothing,
 
 -- ---- what is due
 
--- "one more is due", as far as it can be counted; "what is due is one less when it was sent"
+-- one more, as far as it can be counted; "What is due is one less when it was sent."
 abbrev pub oneMore : ℕ → ℕ
 oneMore due = cond (ltb due 4294967295) (due + 1) due
 

@@ -22,7 +22,9 @@ ghost use Rattle.rehearsal_hosts.specs.Ends.{invited, stationHeard, open
 // The octets of the Invite.
 pub const INVITE_LENGTH: usize = 2;
 
-// The reason of a Close after which the module is not provisioned.
+// The reasons of a Close: the module did not answer in time, or is not provisioned.
+pub const TIMED_OUT: u8 = 1;
+
 const FAILED: u8 = 2;
 
 // The station opens a socket with a Link ID.

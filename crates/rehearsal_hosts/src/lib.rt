@@ -6,6 +6,7 @@ mod stations;
 
 pub use devices::new_device;
 pub use ends::INVITE_LENGTH;
+pub use ends::TIMED_OUT;
 pub use ends::close_answered;
 pub use ends::close_link;
 pub use ends::device_hears;

@@ -10,7 +10,7 @@ use lib.Seq.{take-all}
 use borrow.Author.Tests.{eq-eqb, ne-eqb}
 use Rattle.octets.proofs.Loops.{left-here}
 use Rattle.octets.proofs.Tests.{cases}
-use Rattle.rehearsal_lines.specs.Lines.{isDecimal, decimalOf, field, behind, ratesOf, settingsOf}
+use Rattle.rehearsal_lines.specs.Lines.{isDecimal, decimalRead, field, behind, ratesOf, settingsOf}
 use Rattle.rehearsal_lines.specs.declared.Line.the-variants.{Channel, Other}
 use Rattle.rehearsal_lines.specs.declared.decimals.Decimal.the-variants.{Number, Nothing}
 use Rattle.rehearsal_lines.proofs.Numbers.{told-nothing, told-number}
@@ -54,7 +54,7 @@ module _ (text : List ℕ) (n : ℕ) (e : n ≡ length (field text)) where
 -- ---- the rates
 
 module _ (seed : ℕ) (rates : List ℕ) where
-  pub lost-wrong : decimalOf (field rates) 100 ≡ Nothing → Other ≡ ratesOf seed rates
+  pub lost-wrong : decimalRead (field rates) 100 ≡ Nothing → Other ≡ ratesOf seed rates
   unfolding ratesOf
   lost-wrong e = rw (told-nothing (field rates) 100 e)
 
@@ -62,13 +62,13 @@ module _ (seed : ℕ) (rates : List ℕ) where
   unfolding ratesOf
   wrong-behind e = rw e (cases (isDecimal (field rates) 100) (λ p. rw p) (λ p. rw p))
 
-  pub repeated-wrong : decimalOf (behind rates) 100 ≡ Nothing → Other ≡ ratesOf seed rates
+  pub repeated-wrong : decimalRead (behind rates) 100 ≡ Nothing → Other ≡ ratesOf seed rates
   repeated-wrong e = wrong-behind (told-nothing (behind rates) 100 e)
 
   pub repeated-missing : behind rates ≡ [] → Other ≡ ratesOf seed rates
   repeated-missing e = wrong-behind (rw e)
 
-  pub rates-right : {lost repeated : ℕ} → decimalOf (field rates) 100 ≡ Number lost → decimalOf (behind rates) 100 ≡ Number repeated
+  pub rates-right : {lost repeated : ℕ} → decimalRead (field rates) 100 ≡ Number lost → decimalRead (behind rates) 100 ≡ Number repeated
       → Channel seed lost repeated ≡ ratesOf seed rates
   unfolding ratesOf
   rates-right p q =
@@ -79,7 +79,7 @@ module _ (seed : ℕ) (rates : List ℕ) where
 -- ---- the seed
 
 module _ (settings : List ℕ) where
-  pub seed-wrong : decimalOf (field settings) 4294967295 ≡ Nothing → Other ≡ settingsOf settings
+  pub seed-wrong : decimalRead (field settings) 4294967295 ≡ Nothing → Other ≡ settingsOf settings
   unfolding settingsOf
   seed-wrong e = rw (told-nothing (field settings) 4294967295 e)
 
@@ -87,6 +87,6 @@ module _ (settings : List ℕ) where
   unfolding settingsOf ratesOf
   rates-missing e = rw e (cases (isDecimal (field settings) 4294967295) (λ p. rw p) (λ p. rw p))
 
-  pub seed-right : {seed : ℕ} → decimalOf (field settings) 4294967295 ≡ Number seed → ratesOf seed (behind settings) ≡ settingsOf settings
+  pub seed-right : {seed : ℕ} → decimalRead (field settings) 4294967295 ≡ Number seed → ratesOf seed (behind settings) ≡ settingsOf settings
   unfolding settingsOf
   seed-right e = let s = told-number (field settings) 4294967295 e in rw (s .0, s .1)

@@ -13,12 +13,12 @@ use borrow.Author.Tests.{le-leb, eq-eqb, ne-eqb, leb-true, eqb-true}
 use Rattle.octets.specs.Numbers.{big32}
 use Rattle.octets.proofs.Parts.{same-exactly, write-start}
 use Rattle.octets.proofs.Tests.{cases, both-hold, holds-both}
-use Rattle.hex.specs.Hex.{allDigits as allHexadecimal, isHexadecimal, octetsOf}
+use Rattle.hex.specs.Hex.{allDigits, isHexadecimal, octetsOf}
 use Rattle.hex.proofs.Laws.{length-octets}
 use Rattle.log_lines.specs.Lines.{beginsOpening, isOpening, socketIn, idIn}
 use Rattle.transactions.specs.declared.Socket.{Socket}
 use Rattle.log_lines.specs.Lines.{isPassed}
-use Rattle.rehearsal_lines.specs.Lines.{isDigit, allDigits, valueFrom, isDecimal, field, behind, ratesOf, settingsOf, channelWord, messageDigits, isHeld, moduleOf, moduleRoom, isChannel, lineOf, roomAfter}
+use Rattle.rehearsal_lines.specs.Lines.{isDigit, allDecimal, valueFrom, isDecimal, field, behind, ratesOf, settingsOf, channelWord, messageDigits, isHeld, moduleOf, moduleRoom, isChannel, lineOf, roomAfter}
 use Rattle.rehearsal_lines.specs.Promises.{SaysNothing, Writes, SaysChannel, moduleLine, SaysModule}
 use Rattle.rehearsal_lines.specs.declared.Line.the-variants.{Module, Channel, Passed, Other}
 use Rattle.rehearsal_lines.proofs.Laws.{held-so}
@@ -42,7 +42,7 @@ passes line (inr r) = rw (r .1) (first-decides 35 (r .0))
 writes : (text : List ℕ) (most : ℕ) → isDecimal text most ≡ true → Writes text most (valueFrom 0 text)
 writes text most e =
     let a = both-hold {a = leb 1 (length text)} e in
-    let b = both-hold {a = allDigits text} (a .1) in
+    let b = both-hold {a = allDecimal text} (a .1) in
     record { some = leb-true 1 (length text) (a .0); digits = b .0; valueIs = refl; few = leb-true (valueFrom 0 text) most (b .1) }
 
 decimal-of : {text : List ℕ} {most value : ℕ} → Writes text most value → isDecimal text most ≡ true
@@ -60,13 +60,13 @@ split (c ∷ text) =
     (λ e. rw (e, add-one) (λ h. ap (λ (t : List ℕ). c ∷ t) ((rw add-one at (split text)) h)))
 
 module _ (behind-it : List ℕ) where
-  field-digits : (digits : List ℕ) → allDigits digits ≡ true → field (digits ++ (32 ∷ behind-it)) ≡ digits
+  field-digits : (digits : List ℕ) → allDecimal digits ≡ true → field (digits ++ (32 ∷ behind-it)) ≡ digits
   field-digits [] e = refl
   field-digits (c ∷ digits) e =
       let b = both-hold {a = isDigit c} e in
       rw (ne-eqb c 32 (λ z. omega (arith, digit-so c (b .0)))) (ap (λ (t : List ℕ). c ∷ t) (field-digits digits (b .1)))
 
-  behind-digits : (digits : List ℕ) → allDigits digits ≡ true → behind (digits ++ (32 ∷ behind-it)) ≡ behind-it
+  behind-digits : (digits : List ℕ) → allDecimal digits ≡ true → behind (digits ++ (32 ∷ behind-it)) ≡ behind-it
   behind-digits digits e =
       rw (field-digits digits e, ← (append-snoc digits 32 behind-it))
       (drop-at (digits ++ (32 ∷ [])) behind-it (length digits + 1) (length-append digits (32 ∷ [])))
@@ -138,7 +138,7 @@ first-two (a ∷ []) h = absurd (omega arith)
 first-two (a ∷ b ∷ l) h = refl
 
 opening-so : (l : List ℕ) → isOpening l ≡ true
-    → (length l ≡ 10) × (49 ≤ getD l 0 0) × (getD l 0 0 ≤ 56) × (getD l 1 0 ≡ 32) × (allHexadecimal (drop 2 l) ≡ true)
+    → (length l ≡ 10) × (49 ≤ getD l 0 0) × (getD l 0 0 ≤ 56) × (getD l 1 0 ≡ 32) × (allDigits (drop 2 l) ≡ true)
 unfolding beginsOpening
 opening-so l e =
     let a = both-hold {a = beginsOpening l} e in
@@ -206,7 +206,7 @@ module _ (socket : ℕ) (id message room : List ℕ) (low : 1 ≤ socket) (high 
       holds-both (eq-eqb (length ((48 + socket) ∷ 32 ∷ id)) 10 (omega arith))
       (rw (le-leb 49 (48 + socket) (omega arith), le-leb (48 + socket) 56 (omega arith)))
 
-  module _ (digits : allHexadecimal id ≡ true) (hexadecimal : isHexadecimal message ≡ true)
+  module _ (digits : allDigits id ≡ true) (hexadecimal : isHexadecimal message ≡ true)
       (some : 1 ≤ length message / 2) (few : length message / 2 ≤ 1469) (fits : length message / 2 ≤ length room) where
     holds : isHeld text room ≡ true
     holds =

@@ -9,8 +9,8 @@ use lib.ListN.{length, drop, getD}
 use borrow.Author.Tests.{le-leb, lt-leb, leb-true, eqb-true, eqb-false}
 use Rattle.octets.proofs.Loops.{left-here, goes-on, stops, nothing-left}
 use Rattle.octets.proofs.Tests.{cases, both-hold}
-use Rattle.line_fields.specs.Lines.{digitsUpTo, decimalOf as digitsOf}
-use Rattle.rehearsal_lines.specs.Lines.{isDigit, allDigits, valueFrom, isDecimal, decimalOf}
+use Rattle.line_fields.specs.Lines.{digitsUpTo, decimalOf}
+use Rattle.rehearsal_lines.specs.Lines.{isDigit, allDecimal, valueFrom, isDecimal, decimalRead}
 use Rattle.rehearsal_lines.specs.declared.decimals.Decimal.the-variants.{Number, Nothing}
 
 pub digit-so : (c : ℕ) → isDigit c ≡ true → (48 ≤ c) × (c ≤ 57)
@@ -25,29 +25,29 @@ grows value (c ∷ text) = omega (arith, grows (value * 10 + (c - 48)) text)
 -- ---- by what a text is
 
 module _ (text : List ℕ) (most : ℕ) where
-  pub no-digits : length text ≡ 0 → Nothing ≡ decimalOf text most
-  unfolding decimalOf
+  pub no-digits : length text ≡ 0 → Nothing ≡ decimalRead text most
+  unfolding decimalRead
   no-digits e = rw e
 
-  no-decimal : allDigits text ≡ false → Nothing ≡ decimalOf text most
-  unfolding decimalOf
+  no-decimal : allDecimal text ≡ false → Nothing ≡ decimalRead text most
+  unfolding decimalRead
   no-decimal e = rw e (cases (leb 1 (length text)) (λ p. rw p) (λ p. rw p))
 
-  too-much : most < valueFrom 0 text → Nothing ≡ decimalOf text most
-  unfolding decimalOf
+  too-much : most < valueFrom 0 text → Nothing ≡ decimalRead text most
+  unfolding decimalRead
   too-much h =
       rw (lt-leb (valueFrom 0 text) most h)
-      (cases (leb 1 (length text)) (λ p. rw p (cases (allDigits text) (λ q. rw q) (λ q. rw q))) (λ p. rw p))
+      (cases (leb 1 (length text)) (λ p. rw p (cases (allDecimal text) (λ q. rw q) (λ q. rw q))) (λ p. rw p))
 
-  a-decimal : 1 ≤ length text → allDigits text ≡ true → valueFrom 0 text ≤ most → Number (valueFrom 0 text) ≡ decimalOf text most
-  unfolding decimalOf
+  a-decimal : 1 ≤ length text → allDecimal text ≡ true → valueFrom 0 text ≤ most → Number (valueFrom 0 text) ≡ decimalRead text most
+  unfolding decimalRead
   a-decimal some digits few = rw (le-leb 1 (length text) some, digits, le-leb (valueFrom 0 text) most few)
 
 -- ---- the loop: from place i on, with the value of what stands before it
 
 -- what is left decides as the whole text does
 abbrev pub Left : List ℕ → ℕ → ℕ → Type 0
-Left text value i = (allDigits (drop i text) ≡ allDigits text) × (valueFrom value (drop i text) ≡ valueFrom 0 text)
+Left text value i = (allDecimal (drop i text) ≡ allDecimal text) × (valueFrom value (drop i text) ≡ valueFrom 0 text)
 
 module _ (text : List ℕ) (value i : ℕ) (left : Left text value i) where
   module _ (h : i < length text) where
@@ -58,41 +58,41 @@ module _ (text : List ℕ) (value i : ℕ) (left : Left text value i) where
     next-left : valueFrom next (drop (i + 1) text) ≡ valueFrom 0 text
     next-left = rw (left-here text i 0 h) at (left .1)
 
-    pub wrong-digit : (most : ℕ) → isDigit (getD text i 0) ≡ false → Nothing ≡ decimalOf text most
+    pub wrong-digit : (most : ℕ) → isDigit (getD text i 0) ≡ false → Nothing ≡ decimalRead text most
     wrong-digit most e =
         no-decimal text most
-        (sym (stops allDigits (λ c t. isDigit c) (λ c t. refl) text i 0 (left .0) h refl e))
+        (sym (stops allDecimal (λ c t. isDigit c) (λ c t. refl) text i 0 (left .0) h refl e))
 
-    pub next-too-much : (most : ℕ) → most < next → Nothing ≡ decimalOf text most
+    pub next-too-much : (most : ℕ) → most < next → Nothing ≡ decimalRead text most
     next-too-much most k = too-much text most (omega (arith, grows next (drop (i + 1) text), next-left))
 
     pub right-digit : isDigit (getD text i 0) ≡ true → Left text next (i + 1)
-    right-digit e = (goes-on allDigits (λ c t. isDigit c) (λ c t. refl) text i 0 (left .0) h refl e, next-left)
+    right-digit e = (goes-on allDecimal (λ c t. isDigit c) (λ c t. refl) text i 0 (left .0) h refl e, next-left)
 
-  pub all-read : (most : ℕ) → 1 ≤ length text → length text ≤ i → value ≤ most → Number value ≡ decimalOf text most
+  pub all-read : (most : ℕ) → 1 ≤ length text → length text ≤ i → value ≤ most → Number value ≡ decimalRead text most
   all-read most some h few =
       let e : value ≡ valueFrom 0 text = nothing-left (valueFrom value) text i (left .1) h in
-      rw e (a-decimal text most some (sym (nothing-left allDigits text i (left .0) h)) (omega arith))
+      rw e (a-decimal text most some (sym (nothing-left allDecimal text i (left .0) h)) (omega arith))
 
 -- ---- by what the answer is
 
 module _ (text : List ℕ) (most : ℕ) where
-  pub told-nothing : decimalOf text most ≡ Nothing → isDecimal text most ≡ false
-  unfolding decimalOf
+  pub told-nothing : decimalRead text most ≡ Nothing → isDecimal text most ≡ false
+  unfolding decimalRead
   told-nothing = cases (isDecimal text most) (λ p. rw p (λ e. let z : _≡_ {A = ℕ} 0 1 = cc in absurd (omega arith))) (λ p e. p)
 
-  pub told-number : {n : ℕ} → decimalOf text most ≡ Number n → (isDecimal text most ≡ true) × (n ≡ valueFrom 0 text) × (n ≤ most)
-  unfolding decimalOf
+  pub told-number : {n : ℕ} → decimalRead text most ≡ Number n → (isDecimal text most ≡ true) × (n ≡ valueFrom 0 text) × (n ≤ most)
+  unfolding decimalRead
   told-number {n} =
       cases (isDecimal text most)
-      (λ p. let few = leb-true (valueFrom 0 text) most (both-hold {a = allDigits text} (both-hold {a = leb 1 (length text)} p .1) .1) in
+      (λ p. let few = leb-true (valueFrom 0 text) most (both-hold {a = allDecimal text} (both-hold {a = leb 1 (length text)} p .1) .1) in
       rw p (λ e. let same : n ≡ valueFrom 0 text = cc in (refl, same, omega arith)))
       (λ p. rw p (λ e. let z : _≡_ {A = ℕ} 0 1 = cc in absurd (omega arith)))
 
 -- ---- a number's own digits
 
 -- one digit behind a text
-digits-snoc : (text : List ℕ) (c : ℕ) → allDigits (text ++ (c ∷ [])) ≡ (allDigits text && isDigit c)
+digits-snoc : (text : List ℕ) (c : ℕ) → allDecimal (text ++ (c ∷ [])) ≡ (allDecimal text && isDigit c)
 digits-snoc [] c = cases (isDigit c) (λ e. rw e) (λ e. rw e)
 digits-snoc (x ∷ text) c = cases (isDigit x) (λ e. rw e (digits-snoc text c)) (λ e. rw e)
 
@@ -104,7 +104,7 @@ a-digit : (d : ℕ) → d ≤ 9 → isDigit (48 + d) ≡ true
 unfolding isDigit
 a-digit d h = rw (le-leb 48 (48 + d) (omega arith), le-leb (48 + d) 57 (omega arith))
 
-digits-read : (most n : ℕ) → n ≤ most → (allDigits (digitsUpTo most n) ≡ true) × (valueFrom 0 (digitsUpTo most n) ≡ n)
+digits-read : (most n : ℕ) → n ≤ most → (allDecimal (digitsUpTo most n) ≡ true) × (valueFrom 0 (digitsUpTo most n) ≡ n)
 digits-read zero n h = (refl, omega arith)
 digits-read (suc most) n h =
     cases (eqb n 0)
@@ -119,8 +119,8 @@ some-digits [] h = absurd (omega arith)
 some-digits (c ∷ text) h = omega arith
 
 -- the digits that are written for a number are read as it
-pub own-digits : (n : ℕ) → (1 ≤ length (digitsOf n)) × (allDigits (digitsOf n) ≡ true) × (valueFrom 0 (digitsOf n) ≡ n)
-unfolding digitsOf isDigit
+pub own-digits : (n : ℕ) → (1 ≤ length (decimalOf n)) × (allDecimal (decimalOf n) ≡ true) × (valueFrom 0 (decimalOf n) ≡ n)
+unfolding decimalOf isDigit
 own-digits n =
     cases (eqb n 0)
     (λ e. rw (e, eqb-true n 0 e) (omega arith, refl, refl))

@@ -97,4 +97,4 @@ refused-line-is-comment number =
 
 pub examples : Examples
 unfolding lineOf isDigit settingsOf ratesOf moduleOf refusedLine decimalOf beginsOpening valueOf
-examples = record { passed = refl; channel = refl; channelAbove = refl; aModule = refl; noRoom = refl; refused = refl }
+examples = record { passed = refl; channel = refl; channelAbove = refl; channelColon = refl; channelSlash = refl; aModule = refl; noRoom = refl; refused = refl }

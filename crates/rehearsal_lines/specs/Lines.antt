@@ -7,7 +7,7 @@ use lib.ListN.{length, getD, take, drop}
 use Rattle.octets.specs.Lengths.{isLength}
 use Rattle.octets.specs.Parts.{same, write}
 use Rattle.hex.specs.Hex.{isHexadecimal, octetsOf}
-use Rattle.line_fields.specs.Lines.{decimalOf as digitsOf}
+use Rattle.line_fields.specs.Lines.{decimalOf}
 use Rattle.log_lines.specs.Lines.{isPassed, isOpening, socketIn, idIn}
 use Rattle.rehearsal_lines.specs.declared.Line.{Line}
 use Rattle.rehearsal_lines.specs.declared.Line.the-variants.{Module, Channel, Passed, Other}
@@ -19,21 +19,21 @@ use Rattle.rehearsal_lines.specs.declared.decimals.Decimal.the-variants 
 unfoldable pub isDigit : ℕ → Bool
 isDigit c = leb 48 c && leb c 57
 
-abbrev pub allDigits : List ℕ → Bool
-allDigits [] = true
-allDigits (c ∷ t) = isDigit c && allDigits t
+abbrev pub allDecimal : List ℕ → Bool
+allDecimal [] = true
+allDecimal (c ∷ t) = isDigit c && allDecimal t
 
 -- the value of decimal digits behind a value
 abbrev pub valueFrom : ℕ → List ℕ → ℕ
 valueFrom v [] = v
 valueFrom v (c ∷ t) = valueFrom (v * 10 + (c - 48)) t
 
--- "decimal numbers": one digit or more, and at most so much
+-- "decimal numbers of one digit or more", at most so much
 abbrev pub isDecimal : List ℕ → ℕ → Bool
-isDecimal text most = leb 1 (length text) && (allDigits text && leb (valueFrom 0 text) most)
+isDecimal text most = leb 1 (length text) && (allDecimal text && leb (valueFrom 0 text) most)
 
-unfoldable pub decimalOf : List ℕ → ℕ → Decimal
-decimalOf text most = cond (isDecimal text most) (D.Number (valueFrom 0 text)) D.Nothing
+unfoldable pub decimalRead : List ℕ → ℕ → Decimal
+decimalRead text most = cond (isDecimal text most) (D.Number (valueFrom 0 text)) D.Nothing
 
 -- what stands before the first space, and what stands behind it
 abbrev pub field : List ℕ → List ℕ
@@ -43,14 +43,14 @@ field (c ∷ t) = cond (eqb c 32) [] (c ∷ field t)
 abbrev pub behind : List ℕ → List ℕ
 behind text = drop (length (field text) + 1) text
 
--- "LOST and REPEATED 0 to 100"
+-- "LOST and REPEATED at most 100"
 unfoldable pub ratesOf : ℕ → List ℕ → Line
 ratesOf seed rates =
     cond (isDecimal (field rates) 100 && isDecimal (behind rates) 100)
     (Channel seed (valueFrom 0 (field rates)) (valueFrom 0 (behind rates)))
     Other
 
--- "SEED up to 4,294,967,295"
+-- "SEED at most 4,294,967,295"
 unfoldable pub settingsOf : List ℕ → Line
 settingsOf settings = cond (isDecimal (field settings) 4294967295) (ratesOf (valueFrom 0 (field settings)) (behind settings)) Other
 
@@ -97,4 +97,4 @@ roomAfter line room = cond (isPassed line) room (cond (isChannel line) room (mod
 
 -- "`# refused LINE` with its number"
 unfoldable pub refusedLine : ℕ → List ℕ
-refusedLine number = (35 ∷ 32 ∷ 114 ∷ 101 ∷ 102 ∷ 117 ∷ 115 ∷ 101 ∷ 100 ∷ 32 ∷ []) ++ (digitsOf number ++ (10 ∷ []))
+refusedLine number = (35 ∷ 32 ∷ 114 ∷ 101 ∷ 102 ∷ 117 ∷ 115 ∷ 101 ∷ 100 ∷ 32 ∷ []) ++ (decimalOf number ++ (10 ∷ []))

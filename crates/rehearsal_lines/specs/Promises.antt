@@ -7,23 +7,23 @@ use mathlib.Core.Logic.{_⊎_, _↔_}
 use mathlib.Core.Path.{_≡_}
 use lib.ListN.{length, drop}
 use Rattle.octets.specs.Numbers.{big32}
-use Rattle.hex.specs.Hex.{allDigits as allHexadecimal, isHexadecimal, octetsOf}
+use Rattle.hex.specs.Hex.{allDigits, isHexadecimal, octetsOf}
 use Rattle.transactions.specs.declared.Socket.{Socket}
 use Rattle.line_fields.specs.Lines.{ascii}
 use Rattle.log_lines.specs.Lines.{isPassed}
-use Rattle.rehearsal_lines.specs.Lines.{allDigits, valueFrom, channelWord, lineOf, roomAfter, refusedLine}
+use Rattle.rehearsal_lines.specs.Lines.{allDecimal, valueFrom, channelWord, lineOf, roomAfter, refusedLine}
 use Rattle.rehearsal_lines.specs.declared.Line.the-variants.{Module, Channel, Passed, Other}
 
 -- ---- the forms
 
--- "`#` and anything, or nothing"
+-- "`#` and anything; or nothing at all"
 abbrev pub SaysNothing : List ℕ → Type 0
 SaysNothing line = (line ≡ []) ⊎ ((rest : List ℕ) × (line ≡ 35 ∷ rest))
 
 -- a decimal number: one digit or more, of this value, which is at most so much
 pub record Writes (text : List ℕ) (most value : ℕ) : Type 0 where
   pub some : 1 ≤ length text
-  pub digits : allDigits text ≡ true
+  pub digits : allDecimal text ≡ true
   pub valueIs : valueFrom 0 text ≡ value
   pub few : value ≤ most
 
@@ -31,7 +31,7 @@ pub record Writes (text : List ℕ) (most value : ℕ) : Type 0 where
 abbrev pub channelLine : List ℕ → List ℕ → List ℕ → List ℕ
 channelLine seed lost repeated = channelWord ++ (seed ++ (32 ∷ (lost ++ (32 ∷ repeated))))
 
--- "SEED up to 4,294,967,295, LOST and REPEATED 0 to 100"
+-- "SEED at most 4,294,967,295, LOST and REPEATED at most 100"
 pub record SaysChannel (line : List ℕ) (seed lost repeated : ℕ) : Type 0 where
   pub seedText : List ℕ
   pub lostText : List ℕ
@@ -51,7 +51,7 @@ pub record SaysModule (line room : List ℕ) (socket : Socket) (id count : ℕ) 
   pub message : List ℕ
   pub form : line ≡ moduleLine (socket .0) idText message
   pub socketFits : (1 ≤ socket .0) × (socket .0 ≤ 8)
-  pub idDigits : (length idText ≡ 8) × (allHexadecimal idText ≡ true)
+  pub idDigits : (length idText ≡ 8) × (allDigits idText ≡ true)
   pub idIs : big32 (octetsOf idText) 0 ≡ id
   pub messageDigits : isHexadecimal message ≡ true
   pub countIs : length message / 2 ≡ count
@@ -94,6 +94,8 @@ pub record Examples : Type 0 where
   pub passed : lineOf (ascii "# three modules") [] ≡ Passed
   pub channel : lineOf (ascii "channel 7 30 30") [] ≡ Channel 7 30 30
   pub channelAbove : lineOf (ascii "channel 7 101 30") [] ≡ Other
+  pub channelColon : lineOf (ascii "channel 7 3: 30") [] ≡ Other
+  pub channelSlash : lineOf (ascii "channel 7 3/ 30") [] ≡ Other
   pub aModule : lineOf (ascii "1 23AF5850 00") (0 ∷ []) ≡ Module (record { 0 = 1 }) 0x23AF5850 1
   pub noRoom : lineOf (ascii "1 23AF5850 00") [] ≡ Other
   pub refused : refusedLine 12 ≡ ascii "# refused 12" ++ (10 ∷ [])

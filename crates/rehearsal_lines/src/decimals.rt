@@ -1,6 +1,6 @@
 // Decimal numbers.
 ghost use mathlib.Core.Path.{_≡_};
-ghost use Rattle.rehearsal_lines.specs.Lines.{isDigit, decimalOf};
+ghost use Rattle.rehearsal_lines.specs.Lines.{isDigit, decimalRead};
 
 // What a text says as a decimal number.
 pub enum Decimal {
@@ -20,7 +20,7 @@ fn is_digit(character: u8) -> bool
 
 // A number of one digit or more, at most so much.
 pub fn read_decimal(text: &[u8], most: u32) -> Decimal
-    ensures { λ r. ⌜ r ≡ decimalOf (now (text .entry)) most ⌝ }
+    ensures { λ r. ⌜ r ≡ decimalRead (now (text .entry)) most ⌝ }
 {
     if text.len() == 0 {
         return Decimal::Nothing;

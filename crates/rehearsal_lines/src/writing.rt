@@ -10,7 +10,7 @@ ghost use Rattle.octets.specs.Writing.{written, outputAfter};
 ghost use Rattle.rehearsal_lines.specs.Lines.{refusedLine};
 
 // No such line is longer: ten characters, a number of at most 20, and a newline.
-pub const MOST_REFUSED: usize = 31;
+const MOST_REFUSED: usize = 31;
 
 // `# refused` and the number of a line, which the readers of a log pass over.
 pub fn write_refused(line: u64, output: &mut [u8]) -> Written

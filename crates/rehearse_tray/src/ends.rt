@@ -38,6 +38,7 @@ pub fn uuid_of(socket: Socket) -> [u8; 16] {
 // A device hears a frame. Each has an area of its own, at its socket's place.
 fn device_hears(before: DeviceHost, socket: Socket, areas: &mut [u8], frame: &[u8]) -> DeviceHost {
     let from = LONGEST_MESSAGE * socket.place();
+    // Never: there is an area for each socket.
     if areas.len() < from + LONGEST_MESSAGE {
         return before;
     }

@@ -165,7 +165,7 @@ fn next_number(lines: u64) -> u64 {
 }
 
 // Reads on, and takes the line if it is whole.
-fn take_turn(
+fn read_next(
     reading: Reading,
     input: &mut [u8],
     line: &mut [u8],
@@ -214,15 +214,15 @@ fn read_lines(
     output: &mut [u8],
 ) -> Reading {
     let mut reading = begin();
-    // Nothing says that the input ends, so the turns are counted down from a number that no run uses up.
-    let mut turns = u64::MAX;
-    while turns > 0 {
-        reading = take_turn(reading, input, line, messages, output);
+    // Nothing says that the input ends, so the pieces are counted down from a number that no run uses up.
+    let mut pieces = u64::MAX;
+    while pieces > 0 {
+        reading = read_next(reading, input, line, messages, output);
         let streams = reading.streams;
         if streams.found {
-            turns -= 1;
+            pieces -= 1;
         } else {
-            turns = 0;
+            pieces = 0;
         }
     }
     reading

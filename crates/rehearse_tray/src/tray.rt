@@ -17,7 +17,7 @@ pub struct Tray {
     pub streams: Streams,
 }
 
-// A device at each socket that has a module.
+// A device at each socket; one without a message where there is no module.
 fn new_devices(modules: [Module; 8]) -> [DeviceHost; 8] {
     let nobody = new_device(0);
     let mut devices = [nobody; 8];

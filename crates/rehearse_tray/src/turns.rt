@@ -10,12 +10,10 @@ use octets::Written;
 use rehearsal_hosts::INVITE_LENGTH;
 use rehearsal_hosts::Sending;
 use rehearsal_hosts::StationEnd;
+use rehearsal_hosts::TIMED_OUT;
 use transactions::Socket;
 ghost use Prim.Native.Nat.{_≤_};
 ghost use lib.ListN.{length};
-
-// The station closes as one whose module did not answer in time.
-const TIMED_OUT: u8 = 1;
 
 // The octets of a frame that is to be sent.
 fn write_sending(
@@ -181,6 +179,7 @@ pub fn device_turn(
 ) -> Tray {
     let from = LONGEST_MESSAGE * socket.place();
     let length = module.length;
+    // Never: there is room for the longest message at each socket.
     if messages.len() < from {
         return before;
     }

@@ -6,10 +6,10 @@ use Rattle.rehearse_tray.proofs.read_lines.Statement.{statement}
 use Rattle.rehearse_tray.proofs.read_lines.Tie as tie
 
 abbrev Inv-loop : tie.InvT-loop
-Inv-loop input₀ line₀ messages₀ output₀ reading₀ turns₀ input line messages output reading turns = (length input ≡ length input₀) × (length line ≡ length line₀) × (length messages ≡ length messages₀) × (length output ≡ length output₀)
+Inv-loop input₀ line₀ messages₀ output₀ reading₀ pieces₀ input line messages output reading pieces = (length input ≡ length input₀) × (length line ≡ length line₀) × (length messages ≡ length messages₀) × (length output ≡ length output₀)
 
 abbrev μ-loop : tie.MeasureT-loop
-μ-loop input₀ line₀ messages₀ output₀ reading₀ turns₀ input line messages output reading turns = turns
+μ-loop input₀ line₀ messages₀ output₀ reading₀ pieces₀ input line messages output reading pieces = pieces
 
 begin-requires : tie.Need-begin-requires Inv-loop μ-loop
 begin-requires c κs = search needs
@@ -17,11 +17,11 @@ begin-requires c κs = search needs
 loop-holds : tie.Need-loop-holds Inv-loop μ-loop
 loop-holds c = search needs
 
-take-turn-requires : tie.Need-take-turn-requires Inv-loop μ-loop
-take-turn-requires c κs = search needs
+read-next-requires : tie.Need-read-next-requires Inv-loop μ-loop
+read-next-requires c κs = search needs
 
-sub-turns : tie.Need-sub-turns Inv-loop μ-loop
-sub-turns c = search needs
+sub-pieces : tie.Need-sub-pieces Inv-loop μ-loop
+sub-pieces c = search needs
 
 loop-less : tie.Need-loop-less Inv-loop μ-loop
 loop-less c = search needs
@@ -58,8 +58,8 @@ read-lines-spec =
     μ-loop
     begin-requires
     loop-holds
-    take-turn-requires
-    sub-turns
+    read-next-requires
+    sub-pieces
     loop-less
     loop-again
     loop-less-2

@@ -2,7 +2,7 @@ use native.Mathlib.Omega.{arith}
 use mathlib.Core.Path.{_≡_, sym, _∙_}
 use lib.Seq.{length-take-le}
 use borrow.Author.Needs.{needs}
-use Rattle.rehearsal_lines.specs.Lines.{field, behind, decimalOf}
+use Rattle.rehearsal_lines.specs.Lines.{field, behind, decimalRead}
 use Rattle.rehearsal_lines.specs.declared.decimals.Decimal.the-variants.{Number}
 use Rattle.rehearsal_lines.proofs.Channel.{cut-front, cut-behind, cut-nothing, lost-wrong, repeated-wrong, repeated-missing, rates-right}
 use Rattle.rehearsal_lines.proofs.Numbers.{told-number}
@@ -10,19 +10,19 @@ use Rattle.rehearsal_lines.proofs.settings.read_rates.Statement.{statem
 use Rattle.rehearsal_lines.proofs.settings.read_rates.Tie as tie
 
 first : (c : tie.After-read-decimal)
-    → c .read-decimal .result ≡ decimalOf (field (c .before .before .before .before .args .rates .now)) 100
+    → c .read-decimal .result ≡ decimalRead (field (c .before .before .before .before .args .rates .now)) 100
 first c = rw (cut-front _ _ (c .before .before .field-length .ensures .0)) at (c .read-decimal .ensures)
 
 second : (c : tie.After-read-decimal2)
-    → c .read-decimal2 .result ≡ decimalOf (behind (c .before .before .before .before .before .before .before .before .before .before .args .rates .now)) 100
+    → c .read-decimal2 .result ≡ decimalRead (behind (c .before .before .before .before .before .before .before .before .before .before .args .rates .now)) 100
 second c = rw (cut-behind _ _ (c .before .before .before .before .before .before .before .before .field-length .ensures .0)) at (c .read-decimal2 .ensures)
 
 lost : (c : tie.After-known-told)
-    → decimalOf (field (c .before .before .before .before .before .before .before .args .rates .now)) 100 ≡ Number (c .before .lost .given .0 .0)
+    → decimalRead (field (c .before .before .before .before .before .before .before .args .rates .now)) 100 ≡ Number (c .before .lost .given .0 .0)
 lost c = sym (first (c .before .before .before)) ∙ c .before .lost .given .1
 
 repeated : (c : tie.After-known-told2)
-    → decimalOf (behind (c .before .before .before .before .before .before .before .before .before .before .before .before .before .args .rates .now)) 100 ≡ Number (c .before .repeated .given .0 .0)
+    → decimalRead (behind (c .before .before .before .before .before .before .before .before .before .before .before .before .before .args .rates .now)) 100 ≡ Number (c .before .repeated .given .0 .0)
 repeated c = sym (second (c .before .before .before)) ∙ c .before .repeated .given .1
 
 field-length-requires : tie.Need-field-length-requires

@@ -1,13 +1,13 @@
 use mathlib.Core.Path.{_≡_, sym, ap, _∙_}
 use lib.Seq.{length-take-le}
 use borrow.Author.Needs.{needs}
-use Rattle.rehearsal_lines.specs.Lines.{field, decimalOf, ratesOf}
+use Rattle.rehearsal_lines.specs.Lines.{field, decimalRead, ratesOf}
 use Rattle.rehearsal_lines.proofs.Channel.{cut-front, cut-behind, cut-nothing, seed-wrong, rates-missing, seed-right}
 use Rattle.rehearsal_lines.proofs.settings.read_settings.Statement.{statement}
 use Rattle.rehearsal_lines.proofs.settings.read_settings.Tie as tie
 
 first : (c : tie.After-read-decimal)
-    → c .read-decimal .result ≡ decimalOf (field (c .before .before .before .before .args .settings .now)) 4294967295
+    → c .read-decimal .result ≡ decimalRead (field (c .before .before .before .before .args .settings .now)) 4294967295
 first c = rw (cut-front _ _ (c .before .before .field-length .ensures .0)) at (c .read-decimal .ensures)
 
 field-length-requires : tie.Need-field-length-requires

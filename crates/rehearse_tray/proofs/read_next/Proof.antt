@@ -2,8 +2,8 @@ use native.Mathlib.Omega.{arith}
 use mathlib.Core.Path.{sym}
 use lib.Seq.{length-take-le}
 use borrow.Author.Needs.{needs}
-use Rattle.rehearse_tray.proofs.take_turn.Statement.{statement}
-use Rattle.rehearse_tray.proofs.take_turn.Tie as tie
+use Rattle.rehearse_tray.proofs.read_next.Statement.{statement}
+use Rattle.rehearse_tray.proofs.read_next.Tie as tie
 
 read-on-requires : tie.Need-read-on-requires
 read-on-requires c κs = search needs
@@ -55,8 +55,8 @@ same-length-7 c = search needs
 returns-2 : tie.Need-returns-2
 returns-2 c = search needs
 
-pub take-turn-spec : {M : Type 1} → statement M
-take-turn-spec =
+pub read-next-spec : {M : Type 1} → statement M
+read-next-spec =
     tie.close
     (tie.spec
     read-on-requires
