@@ -5,7 +5,7 @@ use mathlib.Core.Path.{_≡_, refl}
 use lib.Dec.{leb, ltb}
 use borrow.Author.Tests.{leb-true, leb-false, lt-ltb, le-ltb}
 use Rattle.octets.proofs.Tests.{cases}
-use Rattle.lossy_channel.specs.Channels.{drawnAfter, carried}
+use Rattle.lossy_channel.specs.Channels.{drawnAfter, drawn, carried}
 use Rattle.lossy_channel.specs.Promises.{IsDrawn, NeverZero, Extremes, Fates, Published}
 use Rattle.lossy_channel.specs.declared.Channel.{Channel}
 use Rattle.lossy_channel.specs.declared.Fate.the-variants.{Lost, Once, Twice}
@@ -26,6 +26,14 @@ never-zero = record {
   new = λ seed lost repeated. (omega arith, omega arith);
   draw = λ c h. after-drawn (c .number) h;
   carry = λ c h. after-drawn (drawnAfter (c .number)) (after-drawn (c .number) h);
+}
+
+pub fates : Fates
+fates c = record {
+  lost = λ l. rw (lt-ltb (drawn c .number % 100) (c .lost) l);
+  twice = λ l r. rw (le-ltb (drawn c .number % 100) (c .lost) l, lt-ltb (drawn (drawn c) .number % 100) (c .repeated) r);
+  once = λ l r. rw (le-ltb (drawn c .number % 100) (c .lost) l, le-ltb (drawn (drawn c) .number % 100) (c .repeated) r);
+  after = refl;
 }
 
 module _ (c : Channel) where
@@ -62,14 +70,6 @@ module _ (c : Channel) where
 
 pub extremes : Extremes
 extremes = record { loses-none = loses-none; loses-all = loses-all; repeats-none = repeats-none; repeats-all = repeats-all }
-
-pub fates : Fates
-fates c = record {
-  lost = λ l. rw (lt-ltb (first c % 100) (c .lost) l);
-  twice = λ l r. rw (le-ltb (first c % 100) (c .lost) l, lt-ltb (second c % 100) (c .repeated) r);
-  once = λ l r. rw (le-ltb (first c % 100) (c .lost) l, le-ltb (second c % 100) (c .repeated) r);
-  after = refl;
-}
 
 pub published : Published
 published = record { first = refl; second = refl }
