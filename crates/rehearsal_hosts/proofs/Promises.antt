@@ -181,4 +181,10 @@ module _ (h : DeviceHost) where
   }
 
 pub sends-what-is-due : SendsWhatIsDue
-sends-what-is-due = record { station = station-sends; device = device-sends; invite = λ ls s. refl }
+sends-what-is-due = record {
+  station = station-sends;
+  device = device-sends;
+  unheard = λ h. refl;
+  answer = λ h n t u k e. rw e (refl, refl, refl);
+  invite = λ ls s. refl;
+}

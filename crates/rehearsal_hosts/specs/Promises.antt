@@ -15,8 +15,10 @@ use Rattle.links.specs.declared.Side.the-variants.{Provisioner, Device}
 use Rattle.links.specs.declared.LinkState.the-variants as U
 use Rattle.links.specs.declared.LastDelivered.the-variants as L
 use Rattle.links.specs.declared.Link.{Link}
+use Rattle.links.specs.declared.Refusal.the-variants as R
 use Rattle.links.specs.declared.Answer.{Answer}
 use Rattle.links.specs.declared.Answer.the-variants as A
+use Rattle.device.specs.Calls.{onlySocket}
 use Rattle.rehearsal_hosts.specs.Hosts.{stationNotes, newDevice, deviceNotes}
 use Rattle.rehearsal_hosts.specs.Ends.{openedEnd, invited, stationHeard, closedEnd, answeredEnd, stationNext, deviceHeard, deviceNext}
 use Rattle.rehearsal_hosts.specs.declared.StationHost.{StationHost}
@@ -87,6 +89,13 @@ pub record DeviceSends (h : DeviceHost) : Type 0 where
 pub record SendsWhatIsDue : Type 0 where
   pub station : (e : StationEnd) (s : Socket) → StationSends e s
   pub device : (h : DeviceHost) → DeviceSends h
+  -- "on refusal 3, which is of a module that did not hear the Close, three Closes are due again"
+  pub unheard : (h : StationHost) → stationNotes h (A.Refused R.UnknownLink) .closes ≡ 3
+  -- "on "delivered", which is of the Invite, it begins to send its message (local Send)": all of its segments, from the first
+  pub answer : (h : DeviceHost) (n : ℕ) (t u : TransactionNumber) (k : ℕ) → localSend Device (h .link ∷ []) onlySocket (h .length) .0 ≡ A.Sending u k
+      → (deviceNotes h (A.Delivered n t) .link ≡ linkAt (localSend Device (h .link ∷ []) onlySocket (h .length) .1) onlySocket)
+      × (deviceNotes h (A.Delivered n t) .segment ≡ 0)
+      × (deviceNotes h (A.Delivered n t) .last ≡ k)
   -- "on "opened" it begins to send the Invite, `0000` (local Send of 2 octets)"
   pub invite : (ls : List Link) (s : Socket) → invited ls s A.Opened ≡ localSend Provisioner ls s 2 .1
 
