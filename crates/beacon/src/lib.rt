@@ -1,36 +1,37 @@
 // Beacons, and the key refresh phase and IV update state that they move: types, definitions and what is promised of them.
+#![tactic(auto)]
 ghost use Rattle.std.specs.Prelude.{◌≡◌};
 ghost use Rattle.beacon.specs.Beacons.{refusing};
 
 // The IV index known, and whether the IV update is in progress.
-#[derive(Drop)]
+#[derive(Clone, Copy)]
 pub struct IvState {
     pub index: u32,
     pub updating: bool,
 }
 
 // The key refresh phase, 0 to 2, and the IV state.
-#[derive(Drop)]
+#[derive(Clone, Copy)]
 pub struct SecurityState {
     pub phase: u8,
     pub iv: IvState,
 }
 
 // The key with which a beacon is authentic.
-#[derive(Drop)]
+#[derive(Clone, Copy)]
 pub enum Key {
     Old,
     New,
 }
 
-#[derive(Drop)]
+#[derive(Clone, Copy)]
 pub enum Subnet {
     Primary,
     Secondary,
 }
 
 // What the host says of a beacon.
-#[derive(Drop)]
+#[derive(Clone, Copy)]
 pub struct Hearing {
     pub authentic: bool,
     pub key: Key,
@@ -38,20 +39,20 @@ pub struct Hearing {
 }
 
 // The place of the URI hash, of 4 octets, if there is one.
-#[derive(Drop)]
+#[derive(Clone, Copy)]
 pub enum Hash {
     Nothing,
     At(usize),
 }
 
-#[derive(Drop)]
+#[derive(Clone, Copy)]
 pub enum IvReport {
     Nothing,
     ResetSequence,
     RecoveryWanted,
 }
 
-#[derive(Drop)]
+#[derive(Clone, Copy)]
 pub enum BeaconRefusal {
     BadState,
     Empty,
@@ -63,7 +64,7 @@ pub enum BeaconRefusal {
     OutOfWindow,
 }
 
-#[derive(Drop)]
+#[derive(Clone, Copy)]
 pub enum BeaconAnswer {
     // Type 0: the UUID's 16 octets stand from place uuid on.
     Unprovisioned { uuid: usize, oob: u16, hash: Hash },
@@ -75,21 +76,21 @@ pub enum BeaconAnswer {
 }
 
 // The state after a call, and its answer.
-#[derive(Drop)]
+#[derive(Clone, Copy)]
 pub struct Heard {
     pub state: SecurityState,
     pub answer: BeaconAnswer,
 }
 
 // What the key rule gives.
-#[derive(Drop)]
+#[derive(Clone, Copy)]
 pub struct KeyStep {
     pub phase: u8,
     pub revoke: bool,
 }
 
 // What the IV rule gives.
-#[derive(Drop)]
+#[derive(Clone, Copy)]
 pub struct IvStep {
     pub iv: IvState,
     pub report: IvReport,

@@ -1,15 +1,16 @@
 // The entries of a proxy filter: the lookup on which every rule rests, and the test for entries that are not bad.
+#![tactic(auto)]
 ghost use Rattle.std.specs.Prelude.{◌≡◌, ◌&&◌, not, ◌≤◌, eqb, take, drop};
 ghost use Rattle.filter_entries.specs.Entries.{find_from, is_on, all_allowed, all_unused, are_good};
 
 // A place of the list; 0x0000 where it is not in use.
-#[derive(Drop)]
+#[derive(Clone, Copy)]
 pub struct Entry {
     pub address: u16,
 }
 
 // The place of an address among those held, from 0.
-#[derive(Drop)]
+#[derive(Clone, Copy)]
 pub enum Place {
     At(usize),
     Nowhere,

@@ -1,23 +1,24 @@
 // The messages of the proxy filter: what one asks for, and the status that answers it.
+#![tactic(auto)]
 ghost use Rattle.std.specs.Prelude.{◌≡◌, ◌<◌, length};
 ghost use Rattle.filter_messages.specs.Messages.{type_of, change_of, request_of, status_octets};
 
 use octets::octet_at;
 
-#[derive(Drop)]
+#[derive(Clone, Copy)]
 pub enum FilterType {
     AcceptList,
     RejectList,
 }
 
 // What is done with an address.
-#[derive(Drop)]
+#[derive(Clone, Copy)]
 pub enum Change {
     Add,
     Remove,
 }
 
-#[derive(Drop)]
+#[derive(Clone, Copy)]
 pub enum FilterRefusal {
     BadState,
     Empty,
@@ -28,14 +29,14 @@ pub enum FilterRefusal {
 }
 
 // What a message asks for.
-#[derive(Drop)]
+#[derive(Clone, Copy)]
 pub enum Request {
     SetType(FilterType),
     Change(Change),
     Refused(FilterRefusal),
 }
 
-#[derive(Drop)]
+#[derive(Clone, Copy)]
 pub enum FilterAnswer {
     Status { kind: FilterType, count: u8 },
     Refused(FilterRefusal),

@@ -9,8 +9,8 @@ use lib.ListN.{length, take, drop, get_or, length-append, length-drop, get_or-ap
 use lib.Seq.{length-take-le, take-suc, take_all, get_or-take}
 use borrow.Author.Tests.{le-leb, lt-ltb, ne_eqb, leb-true, leb-false}
 use Rattle.octets.proofs.Tests.{cases, both_hold}
-use Rattle.hex.specs.Hex.{value_of, all_digits, octets_of}
-use Rattle.hex.proofs.Laws.{length-octets}
+use Rattle.hexadecimal.specs.Hex.{value_of, all_digits, octets_of}
+use Rattle.hexadecimal.proofs.Laws.{length-octets}
 use Rattle.log_lines.specs.Lines.{is_frame, begins_opening}
 use Rattle.import_lines.specs.Lines.{plain_step, other_step, sent_line, unheard_step, line_step, line_area}
 use Rattle.import_tray.specs.declared.Tray.{Tray}

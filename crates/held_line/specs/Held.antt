@@ -1,6 +1,6 @@
 -- A line of input of any length, held in 64 characters.
 use Rattle.std.specs.Prelude.{ℕ, ◌+◌, Bool, ◌&&◌, cond, List, [], ◌∷◌, ◌++◌, leb, eqb, length, take, get_or, set}
-use Rattle.hex.specs.Hex.{value_of}
+use Rattle.hexadecimal.specs.Hex.{value_of}
 
 abbrev pub is_digit : ℕ → Bool
 is_digit c = leb (value_of c) 15

@@ -1,10 +1,11 @@
 // A line of input of any length, held in 64 characters so that it is imported as the whole line would be.
+#![tactic(auto)]
 ghost use Rattle.std.specs.Prelude.{false, cond, ◌≡◌, ◌≤◌, length};
 ghost use Rattle.held_line.specs.Held.{is_digit, full_count, full_buffer, count_after, buffer_after};
 ghost use Rattle.held_line.specs.Lines.{empty_line, held_piece, settled, begun};
 
 // The line so far.
-#[derive(Drop)]
+#[derive(Clone, Copy)]
 pub struct HeldLine {
     pub characters: [u8; 64],
     // Characters that are held, at the start.
@@ -16,7 +17,7 @@ pub struct HeldLine {
 fn is_digit(character: u8) -> bool
     ensures { result ≡ is_digit character }
 {
-    hex::value(character) <= 15
+    hexadecimal::value(character) <= 15
 }
 
 // One character more behind 64.

@@ -17,9 +17,9 @@ use Rattle.octets.proofs.Parts.{write-octet, write-next, write-front}
 use Rattle.octets.proofs.Cut.{joined-up-to}
 use Rattle.octets.proofs.Tests.{cases, both_hold, holds-both}
 use Rattle.octets.proofs.Writing.{written-fits, wrote}
-use Rattle.hex.specs.Hex.{is_hexadecimal, octets_of, text_of, decoded_of, decoded_output, encoded_output}
-use Rattle.hex.specs.declared.Decoded.TheVariants.{Octets}
-use Rattle.hex.proofs.Laws.{length-text, length-octets, encoded-fits}
+use Rattle.hexadecimal.specs.Hex.{is_hexadecimal, octets_of, text_of, decoded_of, decoded_output, encoded_output}
+use Rattle.hexadecimal.specs.declared.Decoded.TheVariants.{Octets}
+use Rattle.hexadecimal.proofs.Laws.{length-text, length-octets, encoded-fits}
 use Rattle.transactions.specs.Segments.{seg_n, segment_place}
 use Rattle.pb_adv_writing.specs.Writing.{segment_frame, header_of, is_segment, SegmentAsked}
 use Rattle.transactions.specs.declared.TransactionNumber.{TransactionNumber}

@@ -15,8 +15,8 @@ use Rattle.octets.specs.declared.Written.TheVariants.{Count, WrongArgument}
 use Rattle.octets.proofs.Tables.{by-table}
 use Rattle.octets.proofs.Tests.{cases, both_hold, lt_not_le}
 use Rattle.octets.proofs.Writing.{refusal-keeps as writer-keeps}
-use Rattle.hex.specs.Hex.{all_digits, is_hexadecimal, octets_of}
-use Rattle.hex.proofs.Laws.{length-octets}
+use Rattle.hexadecimal.specs.Hex.{all_digits, is_hexadecimal, octets_of}
+use Rattle.hexadecimal.proofs.Laws.{length-octets}
 use Rattle.transactions.specs.Numbers.{number_after}
 use Rattle.transactions.specs.declared.TransactionNumber.{TransactionNumber}
 use Rattle.transactions.proofs.Laws.{seg_n-small}

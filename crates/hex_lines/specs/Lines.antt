@@ -5,7 +5,7 @@ use Rattle.octets.specs.Told.{Told, refused, answered}
 use Rattle.octets.specs.Writing.{written, output_after}
 use Rattle.octets.specs.declared.Written.{Written}
 use Rattle.octets.specs.declared.Written.TheVariants.{Count, WrongArgument}
-use Rattle.hex.specs.Hex.{is_hexadecimal, octets_of, text_of}
+use Rattle.hexadecimal.specs.Hex.{is_hexadecimal, octets_of, text_of}
 use Rattle.transactions.specs.Numbers.{number_after}
 use Rattle.pb_adv_writing.specs.Writing.{message_frames}
 use Rattle.transactions.specs.declared.TransactionNumber.{TransactionNumber}

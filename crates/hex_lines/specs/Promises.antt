@@ -3,7 +3,7 @@ use Rattle.std.specs.Prelude.{ℕ, ◌%◌, ◌≤◌, Bool, true, false, ◌||�
 use Rattle.octets.specs.Cut.{joined}
 use Rattle.octets.specs.Told.{refused}
 use Rattle.octets.specs.Tables.{Row, refusal, reply, ByTable}
-use Rattle.hex.specs.Hex.{all_digits, octets_of}
+use Rattle.hexadecimal.specs.Hex.{all_digits, octets_of}
 use Rattle.transactions.specs.Numbers.{number_after}
 use Rattle.pb_adv_writing.specs.Writing.{message_frames}
 use Rattle.transactions.specs.declared.TransactionNumber.{TransactionNumber}

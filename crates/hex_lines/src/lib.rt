@@ -1,4 +1,5 @@
 // One line of the line program: digits in, frames as text out, the next number back.
+#![tactic(auto)]
 ghost use Rattle.std.specs.Prelude.{true, ◌≡◌, ◌+◌, ◌≤◌, length};
 ghost use Rattle.octets.specs.Parts.{write};
 ghost use Rattle.octets.specs.Writing.{written, output_after};
@@ -6,12 +7,12 @@ ghost use Rattle.transactions.specs.Numbers.{number_after};
 ghost use Rattle.hex_lines.specs.Lines.{message_text, refused_text, with_next, line_written, line_output};
 ghost use Rattle.hex_lines.specs.Steps.{segment_line, LineAsked};
 
-use hex::Decoded;
+use hexadecimal::Decoded;
 use octets::Written;
 use transactions::TransactionNumber;
 
 // The answer to a line.
-#[derive(Drop)]
+#[derive(Clone, Copy)]
 pub enum LineWritten {
     // The length of its text, which stands at the start of the output, and the number of the next message.
     Text {
@@ -43,7 +44,7 @@ fn put_line(
         // Never: there is such a segment, and no frame is longer than 29 octets.
         return at;
     };
-    hex::encode(&frame[..n], output, at);
+    hexadecimal::encode(&frame[..n], output, at);
     let end = at + 2 * n;
     output[end] = b'\n';
     end + 1
@@ -93,7 +94,7 @@ pub fn write_line(number: TransactionNumber, line: &[u8], output: &mut [u8]) -> 
 {
     // The longest message, so that the reader refuses a longer one.
     let mut message = [0u8; octets::LONGEST_MESSAGE];
-    let Decoded::Octets(n) = hex::decode(line, &mut message) else {
+    let Decoded::Octets(n) = hexadecimal::decode(line, &mut message) else {
         return put_refused(number, output);
     };
     // An empty line is hexadecimal, and no message.

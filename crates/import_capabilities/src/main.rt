@@ -1,4 +1,5 @@
 // Reads the log of a tray, from standard input or from the file that its argument names, and writes the stock table to standard output.
+#![tactic(auto)]
 ghost use Rattle.std.specs.Prelude.{true, ◌≡◌, ◌≤◌, min, length, replicate};
 ghost use Rattle.octets.specs.Writing.{written, output_after};
 ghost use Rattle.held_line.specs.Lines.{held_text};
@@ -17,7 +18,7 @@ use octets::Written;
 use transactions::Socket;
 
 // How far the program has come.
-#[derive(Drop)]
+#[derive(Clone, Copy)]
 struct Progress {
     streams: Streams,
     line: HeldLine,

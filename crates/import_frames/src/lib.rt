@@ -1,4 +1,5 @@
 // One frame of the import step, as it was heard or as the station sent it.
+#![tactic(auto)]
 mod heard;
 mod origins;
 mod sent;
@@ -12,7 +13,7 @@ pub use sent::take_sent;
 use transactions::{Socket, TransactionNumber};
 
 // What an answer of the station comes to. A refusal has document 01's number.
-#[derive(Drop)]
+#[derive(Clone, Copy)]
 pub enum Outcome {
     Refused(u8),
     Delivered {
@@ -23,7 +24,7 @@ pub enum Outcome {
 }
 
 // What a frame that the station sent asks of its records.
-#[derive(Drop)]
+#[derive(Clone, Copy)]
 pub enum Asked {
     Nothing,
     Refused(u8),

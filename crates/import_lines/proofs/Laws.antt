@@ -10,10 +10,10 @@ use lib.Dec.{leb}
 use lib.ListN.{length, take}
 use borrow.Author.Tests.{le-leb, lt-leb, leb-true, leb-false}
 use Rattle.octets.proofs.Tests.{cases, both_hold}
-use Rattle.hex.specs.Hex.{is_hexadecimal, octets_of, decoded_of, decoded_output}
-use Rattle.hex.specs.declared.Decoded.TheVariants.{Octets, NotHexadecimal, TooLong}
-use Rattle.hex.proofs.Laws.{length-octets}
-use Rattle.hex.proofs.Readings.{read_none, read-long, read-octets, read-front}
+use Rattle.hexadecimal.specs.Hex.{is_hexadecimal, octets_of, decoded_of, decoded_output}
+use Rattle.hexadecimal.specs.declared.Decoded.TheVariants.{Octets, NotHexadecimal, TooLong}
+use Rattle.hexadecimal.proofs.Laws.{length-octets}
+use Rattle.hexadecimal.proofs.Readings.{read_none, read-long, read-octets, read-front}
 use Rattle.log_lines.specs.Lines.{is_frame, is_opening, socket_in, id_in, opening_of}
 use Rattle.log_lines.specs.declared.Opening.TheVariants as G
 use Rattle.pb_adv.specs.Frame.{parsed}

@@ -10,8 +10,8 @@ use borrow.Author.Tests.{le-leb, ne_eqb, leb-true}
 use Rattle.octets.specs.Numbers.{Octets, octets32, big32}
 use Rattle.octets.proofs.Numbers.{four-octets, number-back}
 use Rattle.octets.proofs.Tests.{cases, both_hold}
-use Rattle.hex.specs.Hex.{is_hexadecimal, value_of, text_of}
-use Rattle.hex.proofs.Laws.{length-text, text-hexadecimal, octets-back}
+use Rattle.hexadecimal.specs.Hex.{is_hexadecimal, value_of, text_of}
+use Rattle.hexadecimal.proofs.Laws.{length-text, text-hexadecimal, octets-back}
 use Rattle.transactions.specs.Numbers.{is_socket}
 use Rattle.transactions.specs.declared.Socket.{Socket}
 use Rattle.log_lines.specs.Lines.{is_frame, is_opening, begins_opening, id_in, opening_text, heard_text, sent_text}

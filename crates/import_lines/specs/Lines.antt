@@ -1,6 +1,6 @@
 -- One line of a tray's log: what it does to the tray and the lent area, and what it writes. Quotations are of `docs/IMPORT.md`.
 use Rattle.std.specs.Prelude.{ℕ, ◌/◌, cond, List, [], leb, length, drop}
-use Rattle.hex.specs.Hex.{octets_of}
+use Rattle.hexadecimal.specs.Hex.{octets_of}
 use Rattle.transactions.specs.Numbers.{socket_place}
 use Rattle.transactions.specs.declared.Socket.{Socket}
 use Rattle.links.specs.Station.{local_open}

@@ -3,7 +3,7 @@ ghost use Rattle.std.specs.Prelude.{true, ◌≡◌, ◌≤◌, length, take};
 ghost use Rattle.log_lines.specs.Lines.{is_marked_sent};
 ghost use Rattle.import_lines.specs.Lines.{opened_by, opened_step, wrong_line, plain_step, other_step, sent_line, unheard_step, line_step, line_area, held_frame};
 
-use hex::Decoded;
+use hexadecimal::Decoded;
 use import_frames::Outcome;
 use import_tray::{Report, Step, Stock, Tray, refuse};
 use line_fields::Field;
@@ -95,7 +95,7 @@ fn read_frame(digits: &[u8], frame: &mut [u8]) -> usize
     ensures { (result ≡ length (held_frame digits.now frame.old))
         × (take result frame.new ≡ held_frame digits.now frame.old) }
 {
-    match hex::decode(digits, frame) {
+    match hexadecimal::decode(digits, frame) {
         Decoded::Octets(n) => n,
         Decoded::NotHexadecimal => 0,
         Decoded::TooLong => 30,

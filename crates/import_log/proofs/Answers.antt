@@ -9,7 +9,7 @@ use lib.ListN.{length, take, drop}
 use lib.Seq.{take-take}
 use Rattle.octets.specs.Parts.{part}
 use Rattle.octets.proofs.Tests.{both_hold}
-use Rattle.hex.specs.Hex.{octets_of}
+use Rattle.hexadecimal.specs.Hex.{octets_of}
 use Rattle.transactions.specs.Numbers.{socket_place}
 use Rattle.transactions.specs.Segments.{seg_n, segment}
 use Rattle.transactions.specs.declared.Socket.{Socket}

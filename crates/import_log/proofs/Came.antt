@@ -9,7 +9,7 @@ use mathlib.Core.Path.{◌≡◌, refl, sym, ap, ◌∙◌, subst}
 use lib.ListN.{length, take, drop, length-take}
 use lib.Seq.{append_snoc, take-take}
 use Rattle.octets.specs.Parts.{part}
-use Rattle.hex.specs.Hex.{octets_of}
+use Rattle.hexadecimal.specs.Hex.{octets_of}
 use Rattle.transactions.specs.Numbers.{is_socket, socket_place}
 use Rattle.transactions.specs.Segments.{seg_n}
 use Rattle.transactions.specs.declared.Socket.{Socket}

@@ -9,8 +9,8 @@ use lib.ListN.{length, drop, get_or, replicate}
 use borrow.Author.Tests.{eqb-true, ne_eqb, leb-true, le-leb}
 use Rattle.octets.specs.Numbers.{Octets}
 use Rattle.octets.proofs.Tests.{cases, both_hold, holds-both}
-use Rattle.hex.specs.Hex.{value_of, all_digits, is_hexadecimal, octets_of}
-use Rattle.hex.proofs.Laws.{digit_at, octets-are-octets}
+use Rattle.hexadecimal.specs.Hex.{value_of, all_digits, is_hexadecimal, octets_of}
+use Rattle.hexadecimal.proofs.Laws.{digit_at, octets-are-octets}
 use Rattle.pb_adv.specs.Frame.{parsed}
 use Rattle.transactions.specs.Numbers.{is_socket}
 use Rattle.transactions.specs.declared.Socket.{Socket}

@@ -12,7 +12,7 @@ use borrow.Author.Tests.{eqb-true, eq-eqb}
 use Rattle.octets.specs.Cut.{piece, up_to}
 use Rattle.octets.specs.Parts.{part}
 use Rattle.octets.proofs.Tests.{cases, both_hold}
-use Rattle.hex.specs.Hex.{octets_of}
+use Rattle.hexadecimal.specs.Hex.{octets_of}
 use Rattle.transactions.specs.Numbers.{socket_place}
 use Rattle.transactions.specs.Segments.{seg_n}
 use Rattle.transactions.specs.declared.Socket.{Socket}

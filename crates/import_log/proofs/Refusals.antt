@@ -9,8 +9,8 @@ use lib.ListN.{length, get_or, drop}
 use borrow.Author.Tests.{eqb-true, eq-eqb, ne_eqb, leb-true}
 use Rattle.octets.specs.Parts.{part}
 use Rattle.octets.proofs.Tests.{cases, both_hold}
-use Rattle.hex.specs.Hex.{value_of, all_digits, is_hexadecimal, octets_of}
-use Rattle.hex.proofs.Laws.{digit_at}
+use Rattle.hexadecimal.specs.Hex.{value_of, all_digits, is_hexadecimal, octets_of}
+use Rattle.hexadecimal.proofs.Laws.{digit_at}
 use Rattle.transactions.specs.declared.Socket.{Socket}
 use Rattle.transactions.specs.declared.TransactionNumber.{TransactionNumber}
 use Rattle.pb_adv.specs.Frame.{parsed, refusal_number as frame_number}

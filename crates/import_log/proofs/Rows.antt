@@ -8,7 +8,7 @@ use lib.ListN.{length, drop, set, length-set}
 use Rattle.octets.specs.Parts.{part}
 use Rattle.octets.proofs.Tables.{other-told}
 use Rattle.octets.proofs.Tests.{cases}
-use Rattle.hex.specs.Hex.{octets_of}
+use Rattle.hexadecimal.specs.Hex.{octets_of}
 use Rattle.transactions.specs.Numbers.{is_socket, socket_place}
 use Rattle.transactions.specs.declared.Socket.{Socket}
 use Rattle.transactions.specs.declared.TransactionNumber.{TransactionNumber}

@@ -10,7 +10,7 @@ use lib.ListN.{get_or, drop}
 use borrow.Author.Tests.{eqb-true, eqb-false, eq-eqb, leb-true}
 use Rattle.octets.specs.Numbers.{Octets}
 use Rattle.octets.proofs.Tests.{cases, both_hold}
-use Rattle.hex.specs.Hex.{octets_of}
+use Rattle.hexadecimal.specs.Hex.{octets_of}
 use Rattle.transactions.specs.Numbers.{is_socket, socket_place}
 use Rattle.transactions.specs.declared.Socket.{Socket}
 use Rattle.transactions.specs.declared.TransactionNumber.{TransactionNumber}

@@ -1,6 +1,6 @@
 -- EVERY ANSWER IS RECORDED, with premises for that one link alone: whatever came before, on this and any other link. The proofs are `proofs/Answers.antt`.
 use Rattle.std.specs.Prelude.{ℕ, Bool, true, not, List, ◌∷◌, ◌++◌, ◌≢◌, ◌≡◌, eqb, drop}
-use Rattle.hex.specs.Hex.{octets_of}
+use Rattle.hexadecimal.specs.Hex.{octets_of}
 use Rattle.transactions.specs.Numbers.{is_socket, socket_place}
 use Rattle.transactions.specs.declared.Socket.{Socket}
 use Rattle.transactions.specs.declared.TransactionNumber.{TransactionNumber}

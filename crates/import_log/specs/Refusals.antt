@@ -3,7 +3,7 @@
 -- `docs/IMPORT.md`.
 use Rattle.std.specs.Prelude.{ℕ, ◌+◌, ◌*◌, true, false, List, ◌≢◌, ◌↔◌, ◌≡◌, get_or, drop}
 use Rattle.octets.specs.Parts.{part}
-use Rattle.hex.specs.Hex.{octets_of}
+use Rattle.hexadecimal.specs.Hex.{octets_of}
 use Rattle.transactions.specs.declared.Socket.{Socket}
 use Rattle.transactions.specs.declared.TransactionNumber.{TransactionNumber}
 use Rattle.pb_adv.specs.Frame.{parsed, refusal_number as frame_number}

@@ -1,7 +1,7 @@
 -- WHAT THE BUYER READS: under each name of the header, in the row that a line writes of a Capabilities message, stands the text of that message's own
 -- octets, which are octets of the line. The proof is `proofs/Shown.antt`.
 use Rattle.std.specs.Prelude.{ℕ, true, List, ◌≡◌, get_or}
-use Rattle.hex.specs.Hex.{octets_of}
+use Rattle.hexadecimal.specs.Hex.{octets_of}
 use Rattle.line_fields.specs.Lines.{decimal_of}
 use Rattle.stock_table.specs.Columns.{row_line}
 use Rattle.stock_table.specs.Promises.{under, RecordColumns}

@@ -1,10 +1,11 @@
 // A tray's log, line by line: the tray after the lines so far, and how many they were.
+#![tactic(auto)]
 ghost use Rattle.std.specs.Prelude.{◌≡◌};
 ghost use Rattle.import_log.specs.Logs.{next_number, new_log, taken, area_after};
 
 use import_tray::{Report, Tray};
 
-#[derive(Drop)]
+#[derive(Clone, Copy)]
 pub struct Log {
     pub tray: Tray,
     // How many lines there were.
@@ -12,7 +13,7 @@ pub struct Log {
 }
 
 // The log after a line, and what the line writes.
-#[derive(Drop)]
+#[derive(Clone, Copy)]
 pub struct Taken {
     pub log: Log,
     pub report: Report,

@@ -1,4 +1,5 @@
 // What becomes of a message that was delivered: a record, one after it, a message of another kind, or a refusal by the reader.
+#![tactic(auto)]
 ghost use Rattle.std.specs.Prelude.{◌≡◌};
 ghost use Rattle.import_messages.specs.Messages.{reading_of, same_fields, further_word, capabilities_step, message_step};
 
@@ -8,7 +9,7 @@ use provisioning::{Capabilities, Message};
 use stock_table::Origin;
 
 // What the reader's answer comes to. A refusal has document 01's number.
-#[derive(Drop)]
+#[derive(Clone, Copy)]
 pub enum Reading {
     Record(Capabilities),
     Refused(u8),

@@ -1,4 +1,5 @@
 // The tray of the import step: its link records, and what the table has of each socket.
+#![tactic(auto)]
 ghost use Rattle.std.specs.Prelude.{◌≡◌, get_or, set};
 ghost use Rattle.import_tray.specs.declared.Stock.TheVariants.{Unopened};
 ghost use Rattle.import_tray.specs.Trays.{stock_of, new_tray, stock_at, with_links, with_stock, row_after, last_report};
@@ -11,7 +12,7 @@ use stock_table::{Origin, Row};
 use transactions::Socket;
 
 // What the table has of a socket: it was never opened, it has no record since its latest opening, or that record.
-#[derive(Drop)]
+#[derive(Clone, Copy)]
 pub enum Stock {
     Unopened,
     Missing,
@@ -19,27 +20,27 @@ pub enum Stock {
 }
 
 // That of one socket: a tray has an array of them.
-#[derive(Drop)]
+#[derive(Clone, Copy)]
 pub struct SocketStock {
     pub stock: Stock,
 }
 
 // The link records of a tray, and what the table has of each socket.
-#[derive(Drop)]
+#[derive(Clone, Copy)]
 pub struct Tray {
     pub links: [Link; 8],
     pub stock: [SocketStock; 8],
 }
 
 // What a line writes.
-#[derive(Drop)]
+#[derive(Clone, Copy)]
 pub enum Report {
     Nothing,
     Row(Row),
 }
 
 // The tray after a line, and what the line writes.
-#[derive(Drop)]
+#[derive(Clone, Copy)]
 pub struct Step {
     pub tray: Tray,
     pub report: Report,

@@ -13,8 +13,8 @@ use borrow.Author.Tests.{le-leb, lt-ltb, ne_eqb, leb-true, leb-false}
 use Rattle.octets.specs.Parts.{part, write, copied}
 use Rattle.octets.proofs.Parts.{copied-part, write-front, write-length, write-next, write-nothing}
 use Rattle.octets.proofs.Tests.{cases}
-use Rattle.hex.specs.Hex.{text_of, encoded_output}
-use Rattle.hex.proofs.Laws.{length-text}
+use Rattle.hexadecimal.specs.Hex.{text_of, encoded_output}
+use Rattle.hexadecimal.proofs.Laws.{length-text}
 use Rattle.io.specs.Digits.{hex_digit_ascii, last_digits, IsDigitCount}
 use Rattle.line_fields.specs.Lines.{digits_up_to, decimal_of, hexadecimal_of, field_text, end_before, line_of, Holds}
 use Rattle.line_fields.specs.declared.Characters.{Characters}

@@ -4,7 +4,7 @@ use Rattle.std.specs.Prelude.{ℕ, zero, suc, ◌+◌, ◌*◌, ◌/◌, ◌%◌
 use Prim.Native.String.{String, char_at, len}
 use Rattle.octets.specs.Numbers.{octets16, octets32}
 use Rattle.octets.specs.Parts.{part}
-use Rattle.hex.specs.Hex.{text_of}
+use Rattle.hexadecimal.specs.Hex.{text_of}
 use Rattle.line_fields.specs.declared.Characters.{Characters}
 use Rattle.line_fields.specs.declared.WordRow.{WordRow}
 use Rattle.line_fields.specs.declared.Word.{Word}

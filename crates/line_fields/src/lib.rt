@@ -1,4 +1,5 @@
 // A line of text: fields with a comma between them and a newline at the end, written at the start of a lent output.
+#![tactic(auto)]
 ghost use Rattle.std.specs.Prelude.{true, cond, [], ◌∷◌, ◌++◌, map, ◌≡◌, ◌+◌, ◌*◌, ◌-◌, ◌≤◌, leb, length, drop};
 ghost use Rattle.octets.specs.Numbers.{octets32};
 ghost use Rattle.octets.specs.Parts.{part, write};
@@ -8,7 +9,7 @@ ghost use Rattle.line_fields.specs.Lines.{decimal_of, hexadecimal_of, field_text
 use octets::Written;
 
 // A word: what a row of the stock table says, and the names of the messages.
-#[derive(Drop)]
+#[derive(Clone, Copy)]
 pub enum Word {
     Record,
     Repeated,
@@ -31,7 +32,7 @@ pub enum Word {
 }
 
 // A field of a line.
-#[derive(Drop)]
+#[derive(Clone, Copy)]
 pub enum Field {
     // No value.
     Empty,
@@ -44,14 +45,14 @@ pub enum Field {
 }
 
 // The text of a field, at most 20 characters: so many at the start.
-#[derive(Drop)]
+#[derive(Clone, Copy)]
 pub struct Characters {
     pub text: [u8; 20],
     pub length: usize,
 }
 
 // Where a word stands among the words, in rows of 14 characters.
-#[derive(Drop)]
+#[derive(Clone, Copy)]
 pub struct WordRow {
     pub row: usize,
     pub length: usize,
@@ -94,7 +95,7 @@ fn hexadecimal_text(value: u32, count: usize) -> Characters
     let mut text = [0u8; 20];
     text[0] = b'0';
     text[1] = b'x';
-    hex::encode(&octets[first..], &mut text, 2);
+    hexadecimal::encode(&octets[first..], &mut text, 2);
     Characters {
         text: text,
         length: 2 + 2 * count,

@@ -1,6 +1,7 @@
 // Lines of text from an input, and text to standard output, through buffers that the program lends. A line comes in pieces, since no
 // buffer holds every line; the text that waits is written out before more input is awaited. Where the system fails to read or to write, a line
 // on standard error says so.
+#![tactic(auto)]
 ghost use Rattle.std.specs.Prelude.{◌≡◌, ◌+◌, ◌≤◌, length};
 ghost use Rattle.lines.specs.Streams.{nothing_read, newline_from, piece_from, next_place, Within, with_waiting, Flushed, RoomMade, waiting_after, is_left, piece_read, Read, Found, is_whole};
 
@@ -10,7 +11,7 @@ use libc::{STDIN_FILENO, STDOUT_FILENO};
 pub const STANDARD_INPUT: i32 = STDIN_FILENO;
 
 // How far a program has come in its input and its output.
-#[derive(Drop)]
+#[derive(Clone, Copy)]
 pub struct Streams {
     // The piece found last: from one place of the input buffer to another, the newline left out.
     pub from: usize,

@@ -1,4 +1,5 @@
 // Link records made anew, and the eight of a station: one of them stored, and what a call hands back.
+#![tactic(auto)]
 ghost use Rattle.std.specs.Prelude.{◌≡◌, get_or, replicate};
 ghost use Rattle.links.specs.Links.{blank, blank_with, with_sending};
 ghost use Rattle.links.specs.Station.{no_link};
@@ -9,7 +10,7 @@ use links::{Answer, HalfReceived, LastDelivered, Link, LinkState, Refusal, Side}
 use transactions::TransactionNumber;
 
 // The records after a call, and its answer.
-#[derive(Drop)]
+#[derive(Clone, Copy)]
 pub struct Received {
     pub links: [Link; 8],
     pub answer: Answer,

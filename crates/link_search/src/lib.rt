@@ -1,4 +1,5 @@
 // The search for the record of a Link ID.
+#![tactic(auto)]
 ghost use Rattle.std.specs.Prelude.{◌≡◌};
 ghost use Rattle.links.specs.Links.{has_id, find};
 

@@ -1,5 +1,6 @@
 // The steps of one link, at either end: a frame that is received for it, a local Send and a local Close. They take any record, and are what the calls of
 // station, local_calls and device do once they have judged arguments and state; a host makes those calls.
+#![tactic(auto)]
 mod other_frames;
 mod segments;
 
@@ -16,7 +17,7 @@ use pb_adv::{FrameRefusal, Parsed};
 use segments::take_segment;
 
 // One record after a step of its link, and the answer.
-#[derive(Drop)]
+#[derive(Clone, Copy)]
 pub struct Stepped {
     pub link: Link,
     pub answer: Answer,

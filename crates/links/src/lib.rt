@@ -1,15 +1,16 @@
 // The link records of an end and the answers of its calls. The rules over them are specs/, the promises proofs/; the code that runs
 // them is in the crates link_steps, local_calls, station and device.
+#![tactic(auto)]
 use transactions::TransactionNumber;
 
 // The end of the links that a record is of.
-#[derive(Drop)]
+#[derive(Clone, Copy)]
 pub enum Side {
     Provisioner,
     Device,
 }
 
-#[derive(Drop)]
+#[derive(Clone, Copy)]
 pub enum LinkState {
     Free,
     Opening,
@@ -17,14 +18,14 @@ pub enum LinkState {
 }
 
 // The last delivered number, or none.
-#[derive(Drop)]
+#[derive(Clone, Copy)]
 pub enum LastDelivered {
     Nothing,
     Number(TransactionNumber),
 }
 
 // What is known of a half-received message: bit k of the marks says that segment k is in.
-#[derive(Drop)]
+#[derive(Clone, Copy)]
 pub struct HalfMessage {
     pub number: TransactionNumber,
     pub length: u16,
@@ -33,14 +34,14 @@ pub struct HalfMessage {
 }
 
 // The half-received message, if any.
-#[derive(Drop)]
+#[derive(Clone, Copy)]
 pub enum HalfReceived {
     Nothing,
     Message(HalfMessage),
 }
 
 // A link record. id is the Link ID, next the next sending number, outstanding whether it awaits its acknowledgement.
-#[derive(Drop)]
+#[derive(Clone, Copy)]
 pub struct Link {
     pub state: LinkState,
     pub id: u32,
@@ -51,14 +52,14 @@ pub struct Link {
 }
 
 // Where a record was found, counted from 0.
-#[derive(Drop)]
+#[derive(Clone, Copy)]
 pub enum Found {
     At(usize),
     Nowhere,
 }
 
 // Why a call is refused, in the order of document 01's numbers, from 1; the last two are a device's.
-#[derive(Drop)]
+#[derive(Clone, Copy)]
 pub enum Refusal {
     Malformed,
     UnknownOpcode,
@@ -79,7 +80,7 @@ pub enum Refusal {
 }
 
 // The answers of the calls of either end.
-#[derive(Drop)]
+#[derive(Clone, Copy)]
 pub enum Answer {
     Refused(Refusal),
     AcknowledgeAgain,

@@ -11,10 +11,10 @@ use borrow.Author.Tests.{leb-true, eqb-true}
 use Rattle.octets.specs.Numbers.{big32}
 use Rattle.octets.proofs.Parts.{write-start}
 use Rattle.octets.proofs.Tests.{cases, both_hold}
-use Rattle.hex.specs.Hex.{all_digits, octets_of, decoded_of, decoded_output}
-use Rattle.hex.specs.declared.Decoded.TheVariants.{Octets}
-use Rattle.hex.proofs.Laws.{length-octets}
-use Rattle.hex.proofs.Readings.{read-octets, read-output}
+use Rattle.hexadecimal.specs.Hex.{all_digits, octets_of, decoded_of, decoded_output}
+use Rattle.hexadecimal.specs.declared.Decoded.TheVariants.{Octets}
+use Rattle.hexadecimal.proofs.Laws.{length-octets}
+use Rattle.hexadecimal.proofs.Readings.{read-octets, read-output}
 use Rattle.log_lines.specs.Lines.{begins_opening, socket_in, opening_of}
 use Rattle.log_lines.specs.declared.Opening.TheVariants as G
 

@@ -1,7 +1,7 @@
 -- The lines of a tray's log: what kind a line is, and what is written. Quotations are of `docs/IMPORT.md`.
 use Rattle.std.specs.Prelude.{ℕ, ◌+◌, ◌-◌, Bool, ◌&&◌, ◌||◌, cond, List, [], ◌∷◌, ◌++◌, leb, eqb, length, get_or, drop}
 use Rattle.octets.specs.Numbers.{big32, octets32}
-use Rattle.hex.specs.Hex.{all_digits, is_hexadecimal, octets_of, text_of}
+use Rattle.hexadecimal.specs.Hex.{all_digits, is_hexadecimal, octets_of, text_of}
 use Rattle.transactions.specs.declared.Socket.{Socket}
 use Rattle.log_lines.specs.declared.Opening.{Opening}
 use Rattle.log_lines.specs.declared.Opening.TheVariants as G

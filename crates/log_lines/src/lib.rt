@@ -1,4 +1,5 @@
 // The lines of a tray's log: opening lines read, and lines of each kind written.
+#![tactic(auto)]
 mod openings;
 mod writing;
 
@@ -7,7 +8,7 @@ use transactions::Socket;
 pub use writing::{write_heard, write_opening, write_sent};
 
 // What a line says as an opening.
-#[derive(Drop)]
+#[derive(Clone, Copy)]
 pub enum Opening {
     Opens { socket: Socket, id: u32 },
     Nothing,

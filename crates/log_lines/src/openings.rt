@@ -3,7 +3,7 @@ ghost use Rattle.std.specs.Prelude.{true, ◌≡◌};
 ghost use Rattle.log_lines.specs.Lines.{begins_opening, opening_of};
 
 use super::Opening;
-use hex::Decoded;
+use hexadecimal::Decoded;
 use octets::read32;
 use transactions::Socket;
 
@@ -29,7 +29,7 @@ fn read_begun(line: &[u8]) -> Opening
     ensures { result ≡ opening_of line.now }
 {
     let mut id = [0u8; 4];
-    let Decoded::Octets(_) = hex::decode(&line[2..10], &mut id) else {
+    let Decoded::Octets(_) = hexadecimal::decode(&line[2..10], &mut id) else {
         return Opening::Nothing;
     };
     Opening::Opens {

@@ -15,7 +15,7 @@ pub fn write_opening(socket: Socket, id: u32, output: &mut [u8]) -> Written
     if socket.is_one_of(8) {
         let digit = 48 + socket.0;
         let octets = octets::four_octets(id);
-        return hex::write_line(&[digit, b' '], &octets, output);
+        return hexadecimal::write_line(&[digit, b' '], &octets, output);
     }
     Written::WrongArgument
 }
@@ -28,7 +28,7 @@ pub fn write_heard(frame: &[u8], output: &mut [u8]) -> Written
     if frame.len() == 0 {
         return Written::WrongArgument;
     }
-    hex::write_line(b"", frame, output)
+    hexadecimal::write_line(b"", frame, output)
 }
 
 // Writes a frame as it was sent, of one octet or more.
@@ -39,5 +39,5 @@ pub fn write_sent(frame: &[u8], output: &mut [u8]) -> Written
     if frame.len() == 0 {
         return Written::WrongArgument;
     }
-    hex::write_line(b">", frame, output)
+    hexadecimal::write_line(b">", frame, output)
 }

@@ -1,9 +1,10 @@
 // A channel that loses and repeats frames as a seed says: the same seed, the same fates. Its numbers are those of the generator that Park and Miller
 // published in 1988, with their later multiplier; C++ has it as minstd_rand.
+#![tactic(auto)]
 ghost use Rattle.std.specs.Prelude.{◌≡◌};
 ghost use Rattle.lossy_channel.specs.Channels.{new_channel, drawn, fate_of, carried};
 
-#[derive(Drop)]
+#[derive(Clone, Copy)]
 pub struct Channel {
     // The number drawn last.
     pub number: u32,
@@ -13,7 +14,7 @@ pub struct Channel {
 }
 
 // What becomes of a frame on its way.
-#[derive(Drop)]
+#[derive(Clone, Copy)]
 pub enum Fate {
     Lost,
     Once,
@@ -21,7 +22,7 @@ pub enum Fate {
 }
 
 // The channel after a frame, and what became of the frame.
-#[derive(Drop)]
+#[derive(Clone, Copy)]
 pub struct Carried {
     pub channel: Channel,
     pub fate: Fate,

@@ -1,18 +1,19 @@
 // A view of a message: the lent octets and the place reached. It reads one field at a time, by `read_field`, which takes slice and place.
+#![tactic(auto)]
 ghost use Rattle.std.specs.Prelude.{◌≡◌};
 ghost use Rattle.message_view.specs.Reading.{size_of, value_at, field_at};
 
 use octets::{octet_at, read16};
 use provisioning::Field;
 
-#[derive(Drop)]
+#[derive(Clone, Copy)]
 pub struct View<'a> {
     pub octets: &'a [u8],
     pub place: usize,
 }
 
 // What is to be read: an octet, a number of two octets, or a field of some length.
-#[derive(Drop)]
+#[derive(Clone, Copy)]
 pub enum Wanted {
     Octet,
     Pair,
@@ -20,7 +21,7 @@ pub enum Wanted {
 }
 
 // What was read. PastEnd is refusal 44.
-#[derive(Drop)]
+#[derive(Clone, Copy)]
 pub enum FieldRead {
     Octet(u8),
     Pair(u16),
@@ -29,7 +30,7 @@ pub enum FieldRead {
 }
 
 // What was read, and the place behind it: the same place where it is past the end.
-#[derive(Drop)]
+#[derive(Clone, Copy)]
 pub struct Step {
     pub next: usize,
     pub field: FieldRead,

@@ -1,10 +1,11 @@
 // Lists of octets: big-endian numbers, how long a message may be, and the answer of a writer.
+#![tactic(auto)]
 ghost use Rattle.std.specs.Prelude.{◌≡◌, ◌<◌, get_or};
 ghost use Rattle.octets.specs.Numbers.{big16, big32, octets32};
 ghost use Rattle.octets.specs.Lengths.{is_length};
 
 // The answer of a writer to a lent output.
-#[derive(Drop)]
+#[derive(Clone, Copy)]
 pub enum Written {
     // How many octets stand at the start of the output.
     Count(usize),

@@ -1,11 +1,12 @@
 // PB-ADV frames: what octets say as a frame.
+#![tactic(auto)]
 mod parsing;
 
 pub use parsing::parse;
 use transactions::TransactionNumber;
 
 // What stands before the octets of a segment.
-#[derive(Drop)]
+#[derive(Clone, Copy)]
 pub enum SegmentHeader {
     // Segment 0, with the message's length L and check octet.
     Start { length: u16, check: u8 },
@@ -14,7 +15,7 @@ pub enum SegmentHeader {
 }
 
 // A segment of a message; its octets stand in the frame, count of them from a place on.
-#[derive(Drop)]
+#[derive(Clone, Copy)]
 pub struct Segment {
     pub id: u32,
     pub number: TransactionNumber,
@@ -24,7 +25,7 @@ pub struct Segment {
 }
 
 // Why octets are no frame.
-#[derive(Drop)]
+#[derive(Clone, Copy)]
 pub enum FrameRefusal {
     // Refusal 1: not 6 to 29 octets, or a body that does not fit its kind.
     Malformed,
@@ -33,7 +34,7 @@ pub enum FrameRefusal {
 }
 
 // What octets say as a frame. id is the Link ID.
-#[derive(Drop)]
+#[derive(Clone, Copy)]
 pub enum Parsed {
     Segment(Segment),
     Acknowledgement { id: u32, number: TransactionNumber },

@@ -1,17 +1,18 @@
 // Provisioning messages, read: the message by its name with its fields, or refusals 41 to 45.
+#![tactic(auto)]
 mod reading;
 
 pub use reading::read_message;
 
 // A field of more than two octets, by its place in the message, the type octet at 0, and its length.
-#[derive(Drop)]
+#[derive(Clone, Copy)]
 pub struct Field {
     pub place: usize,
     pub length: usize,
 }
 
 // What a device can do.
-#[derive(Drop)]
+#[derive(Clone, Copy)]
 pub struct Capabilities {
     pub elements: u8,
     pub algorithms: u16,
@@ -24,7 +25,7 @@ pub struct Capabilities {
 }
 
 // What the provisioner has chosen.
-#[derive(Drop)]
+#[derive(Clone, Copy)]
 pub struct Choice {
     pub algorithm: u8,
     pub public_key: u8,
@@ -34,7 +35,7 @@ pub struct Choice {
 }
 
 // Why octets are no message.
-#[derive(Drop)]
+#[derive(Clone, Copy)]
 pub enum MessageRefusal {
     // Refusal 41.
     Empty,
@@ -49,7 +50,7 @@ pub enum MessageRefusal {
 }
 
 // What octets say as a provisioning message.
-#[derive(Drop)]
+#[derive(Clone, Copy)]
 pub enum Message {
     Invite { attention: u8 },
     Capabilities(Capabilities),

@@ -1,8 +1,9 @@
 // Proxy transfer: the transfer and the answers of its calls. The rules over them are in specs/, the promises in proofs/; the code that runs them is
 // in the crates proxy_writing, proxy_connection and proxy_reading. The type of a message is called kind here, since `type` is a word of the language.
+#![tactic(auto)]
 
 // The answer of the count of pieces.
-#[derive(Drop)]
+#[derive(Clone, Copy)]
 pub enum PieceCount {
     Pieces(usize),
     // Refusal 11: a size outside 20 to 514, or a length outside 1 to 1,469.
@@ -10,32 +11,32 @@ pub enum PieceCount {
 }
 
 // A half-received message: its type, and how many of its octets stand at the start of the buffer.
-#[derive(Drop)]
+#[derive(Clone, Copy)]
 pub enum HalfTransfer {
     Nothing,
     Held { kind: u8, length: u16 },
 }
 
-#[derive(Drop)]
+#[derive(Clone, Copy)]
 pub struct Transfer {
     pub connected: bool,
     pub half: HalfTransfer,
 }
 
-#[derive(Drop)]
+#[derive(Clone, Copy)]
 pub enum ConnectionAnswer {
     Done,
     BadState,
 }
 
 // The transfer after connecting or disconnecting, and the answer.
-#[derive(Drop)]
+#[derive(Clone, Copy)]
 pub struct ConnectionSet {
     pub transfer: Transfer,
     pub answer: ConnectionAnswer,
 }
 
-#[derive(Drop)]
+#[derive(Clone, Copy)]
 pub enum PieceRefusal {
     WrongArgument,
     BadState,
@@ -47,7 +48,7 @@ pub enum PieceRefusal {
     TooLong,
 }
 
-#[derive(Drop)]
+#[derive(Clone, Copy)]
 pub enum PieceAnswer {
     More,
     // A whole message stands at the start of the buffer.
@@ -56,7 +57,7 @@ pub enum PieceAnswer {
 }
 
 // The transfer after a piece was read, and the answer.
-#[derive(Drop)]
+#[derive(Clone, Copy)]
 pub struct PieceRead {
     pub transfer: Transfer,
     pub answer: PieceAnswer,

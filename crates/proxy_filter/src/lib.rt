@@ -1,4 +1,5 @@
 // The proxy filter: an accept list or a reject list of at most 16 addresses.
+#![tactic(auto)]
 ghost use Rattle.std.specs.Prelude.{◌≡◌, true, ◌++◌, ◌∷◌, [], suc, ◌<◌, take, drop};
 ghost use Rattle.filter_entries.specs.Entries.{unused, find};
 ghost use Rattle.filter_entries.specs.Changes.{appended, without, changed, changed_all};
@@ -10,7 +11,7 @@ use filter_messages::{Change, FilterAnswer, FilterRefusal, FilterType, Request, 
 use octets::read16;
 
 // The addresses are the first count entries, in order of adding.
-#[derive(Drop)]
+#[derive(Clone, Copy)]
 pub struct Filter {
     pub kind: FilterType,
     pub count: u8,
@@ -18,13 +19,13 @@ pub struct Filter {
 }
 
 // The filter after a call, and the call's answer.
-#[derive(Drop)]
+#[derive(Clone, Copy)]
 pub struct FilterStep {
     pub filter: Filter,
     pub answer: FilterAnswer,
 }
 
-#[derive(Drop)]
+#[derive(Clone, Copy)]
 pub enum PassAnswer {
     Passes,
     DoesNotPass,

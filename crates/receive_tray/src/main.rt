@@ -1,5 +1,6 @@
 // Rehearses a tray: eight links are opened, and on each come 100 messages of 1,469 octets, the frames of the eight links mixed and every
 // frame twice. It writes how often each answer was given, and whether the last messages stand in the area as they were sent.
+#![tactic(auto)]
 use libc::STDOUT_FILENO;
 use links::{Answer, Link};
 use octets::{LONGEST_MESSAGE, Written};
@@ -7,7 +8,7 @@ use station::AREA_LENGTH;
 use transactions::{Socket, TransactionNumber};
 
 // How often each answer was given.
-#[derive(Drop)]
+#[derive(Clone, Copy)]
 struct Tally {
     opened: u32,
     kept: u32,
@@ -18,7 +19,7 @@ struct Tally {
 }
 
 // The station's records and the tally so far.
-#[derive(Drop)]
+#[derive(Clone, Copy)]
 struct Tray {
     links: [Link; 8],
     tally: Tally,

@@ -1,5 +1,6 @@
 // The two ends of a link in a rehearsal, each with its host: what the host keeps beside the link record, what it has to send, what it notes of an
 // answer, and the calls that it makes.
+#![tactic(auto)]
 mod devices;
 mod ends;
 mod stations;
@@ -17,7 +18,7 @@ pub use stations::new_station;
 use transactions::TransactionNumber;
 
 // What the station's host keeps of a socket.
-#[derive(Drop)]
+#[derive(Clone, Copy)]
 pub struct StationHost {
     // Acknowledgements and Closes that are due, and the reason of the Closes.
     pub acknowledgements: u32,
@@ -26,14 +27,14 @@ pub struct StationHost {
 }
 
 // The station at a socket: its records, and what the host of the socket keeps.
-#[derive(Drop)]
+#[derive(Clone, Copy)]
 pub struct StationEnd {
     pub links: [Link; 8],
     pub host: StationHost,
 }
 
 // A device, and what its host keeps.
-#[derive(Drop)]
+#[derive(Clone, Copy)]
 pub struct DeviceHost {
     pub link: Link,
     // The octets of its message; 0 where there is no device.
@@ -47,7 +48,7 @@ pub struct DeviceHost {
 }
 
 // A frame that is to be sent.
-#[derive(Drop)]
+#[derive(Clone, Copy)]
 pub enum Sending {
     Nothing,
     Open,
@@ -63,14 +64,14 @@ pub enum Sending {
 }
 
 // The station at a socket after it sent a frame, and the frame.
-#[derive(Drop)]
+#[derive(Clone, Copy)]
 pub struct StationNext {
     pub end: StationEnd,
     pub sending: Sending,
 }
 
 // A device after it sent a frame, and the frame.
-#[derive(Drop)]
+#[derive(Clone, Copy)]
 pub struct DeviceNext {
     pub host: DeviceHost,
     pub sending: Sending,

@@ -13,8 +13,8 @@ use borrow.Author.Tests.{le-leb, eq-eqb, ne_eqb, leb-true, eqb-true}
 use Rattle.octets.specs.Numbers.{big32}
 use Rattle.octets.proofs.Parts.{same-exactly, write-start}
 use Rattle.octets.proofs.Tests.{cases, both_hold, holds-both}
-use Rattle.hex.specs.Hex.{all_digits, is_hexadecimal, octets_of}
-use Rattle.hex.proofs.Laws.{length-octets}
+use Rattle.hexadecimal.specs.Hex.{all_digits, is_hexadecimal, octets_of}
+use Rattle.hexadecimal.proofs.Laws.{length-octets}
 use Rattle.log_lines.specs.Lines.{begins_opening, is_opening, socket_in, id_in}
 use Rattle.transactions.specs.declared.Socket.{Socket}
 use Rattle.log_lines.specs.Lines.{is_passed}

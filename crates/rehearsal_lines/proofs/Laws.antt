@@ -12,9 +12,9 @@ use borrow.Author.Tests.{le-leb, lt-leb, eq-eqb, leb-true, leb-false, eqb-true}
 use Rattle.octets.specs.Parts.{same, same_part}
 use Rattle.octets.proofs.Parts.{same-exactly, same-part-fits}
 use Rattle.octets.proofs.Tests.{cases, both_hold, length-out}
-use Rattle.hex.specs.Hex.{is_hexadecimal, decoded_of, decoded_output}
-use Rattle.hex.specs.declared.Decoded.TheVariants.{Octets}
-use Rattle.hex.proofs.Readings.{read-octets, read-output}
+use Rattle.hexadecimal.specs.Hex.{is_hexadecimal, decoded_of, decoded_output}
+use Rattle.hexadecimal.specs.declared.Decoded.TheVariants.{Octets}
+use Rattle.hexadecimal.proofs.Readings.{read-octets, read-output}
 use Rattle.log_lines.specs.Lines.{is_opening, socket_in, id_in, opening_of}
 use Rattle.log_lines.specs.declared.Opening.TheVariants.{Opens, Nothing}
 use Rattle.transactions.specs.declared.Socket.{Socket}

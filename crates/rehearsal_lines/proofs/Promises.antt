@@ -5,7 +5,7 @@ use mathlib.Core.List.{List, ◌++◌}
 use mathlib.Core.Path.{◌≡◌, refl, subst₃}
 use lib.ListN.{drop}
 use Rattle.transactions.specs.declared.Socket.{Socket}
-use Rattle.hex.specs.Hex.{value_of}
+use Rattle.hexadecimal.specs.Hex.{value_of}
 use Rattle.line_fields.specs.Lines.{ascii, decimal_of}
 use Rattle.log_lines.specs.Lines.{begins_opening}
 use Rattle.log_lines.specs.Lines.{is_passed}

@@ -2,7 +2,7 @@
 use Rattle.std.specs.Prelude.{ℕ, ◌+◌, ◌*◌, ◌-◌, ◌/◌, Bool, true, ◌&&◌, ◌||◌, cond, List, [], ◌∷◌, ◌++◌, leb, eqb, length, get_or, take, drop}
 use Rattle.octets.specs.Lengths.{is_length}
 use Rattle.octets.specs.Parts.{same, write}
-use Rattle.hex.specs.Hex.{is_hexadecimal, octets_of}
+use Rattle.hexadecimal.specs.Hex.{is_hexadecimal, octets_of}
 use Rattle.line_fields.specs.Lines.{decimal_of}
 use Rattle.log_lines.specs.Lines.{is_passed, is_opening, socket_in, id_in}
 use Rattle.rehearsal_lines.specs.declared.Line.{Line}

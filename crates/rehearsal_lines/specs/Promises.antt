@@ -2,7 +2,7 @@
 -- are of `docs/REHEARSAL.md`. The proofs are `proofs/Promises.antt`.
 use Rattle.std.specs.Prelude.{ℕ, ◌+◌, ◌/◌, ◌≤◌, true, List, [], ◌∷◌, ◌++◌, ◌⊎◌, ◌↔◌, ◌≡◌, length, drop}
 use Rattle.octets.specs.Numbers.{big32}
-use Rattle.hex.specs.Hex.{all_digits, is_hexadecimal, octets_of}
+use Rattle.hexadecimal.specs.Hex.{all_digits, is_hexadecimal, octets_of}
 use Rattle.transactions.specs.declared.Socket.{Socket}
 use Rattle.line_fields.specs.Lines.{ascii}
 use Rattle.log_lines.specs.Lines.{is_passed}

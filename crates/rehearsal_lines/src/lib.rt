@@ -1,4 +1,5 @@
 // The lines of a rehearsal: what one says, and what is written where it is refused.
+#![tactic(auto)]
 mod decimals;
 mod settings;
 mod writing;
@@ -7,14 +8,14 @@ ghost use Rattle.std.specs.Prelude.{◌≡◌};
 ghost use Rattle.log_lines.specs.Lines.{is_passed};
 ghost use Rattle.rehearsal_lines.specs.Lines.{module_of, module_room, line_of, room_after};
 
-use hex::Decoded;
+use hexadecimal::Decoded;
 use log_lines::Opening;
 use octets::LONGEST_MESSAGE;
 use transactions::Socket;
 pub use writing::write_refused;
 
 // What a line says.
-#[derive(Drop)]
+#[derive(Clone, Copy)]
 pub enum Line {
     // A module at a socket, its Link ID, and how many octets of its message now stand at the start of the room.
     Module {
@@ -53,7 +54,7 @@ fn read_module(line: &[u8], room: &mut [u8]) -> Line
     let Opening::Opens { socket, id } = log_lines::read_opening(&line[..10]) else {
         return Line::Other;
     };
-    let Decoded::Octets(length) = hex::decode(&line[11..], room) else {
+    let Decoded::Octets(length) = hexadecimal::decode(&line[11..], room) else {
         return Line::Other;
     };
     Line::Module { socket, id, length }

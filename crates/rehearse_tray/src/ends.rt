@@ -7,7 +7,7 @@ use rehearsal_hosts::{DeviceHost, StationEnd};
 use transactions::Socket;
 
 // The station at a socket, and how far its log has come.
-#[derive(Drop)]
+#[derive(Clone, Copy)]
 pub struct Logged {
     pub end: StationEnd,
     pub streams: Streams,

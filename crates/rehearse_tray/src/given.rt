@@ -3,14 +3,14 @@ use lossy_channel::Channel;
 use transactions::Socket;
 
 // A module: its Link ID, and the octets of its message; 0 where there is none.
-#[derive(Drop)]
+#[derive(Clone, Copy)]
 pub struct Module {
     pub id: u32,
     pub length: usize,
 }
 
 // All that was given. The messages stand beside it, each at its socket's place.
-#[derive(Drop)]
+#[derive(Clone, Copy)]
 pub struct Given {
     pub modules: [Module; 8],
     pub channel: Channel,

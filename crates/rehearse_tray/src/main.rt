@@ -1,5 +1,6 @@
 // Rehearses a tray without modules: it reads which modules there are and how much the channel loses and repeats, runs the station and the devices
 // against each other, and writes the station's log (docs/REHEARSAL.md).
+#![tactic(auto)]
 mod ends;
 mod given;
 mod log;
@@ -22,7 +23,7 @@ use tray::Tray;
 const TURNS: u32 = 64000;
 
 // How far the program has come in its input.
-#[derive(Drop)]
+#[derive(Clone, Copy)]
 struct Reading {
     given: Given,
     streams: Streams,
@@ -33,7 +34,7 @@ struct Reading {
 }
 
 // What was given with one line more, and how far the output has come.
-#[derive(Drop)]
+#[derive(Clone, Copy)]
 struct Taken {
     given: Given,
     streams: Streams,

@@ -5,7 +5,7 @@ use links::Link;
 use lossy_channel::Channel;
 use rehearsal_hosts::{DeviceHost, StationEnd, StationHost, new_device, new_station};
 
-#[derive(Drop)]
+#[derive(Clone, Copy)]
 pub struct Tray {
     pub links: [Link; 8],
     pub stations: [StationHost; 8],

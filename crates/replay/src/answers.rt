@@ -5,7 +5,7 @@ use script::Outcome;
 // Enough for every answer: of a storage at most 4,000 octets are shown, and no frame or piece that is written has more than 514.
 const MOST: usize = 4096;
 
-#[derive(Drop)]
+#[derive(Clone, Copy)]
 pub(super) struct Answer {
     // The first character: a capital letter, the `O` of `OK`, `?`, or `!` with the refusal's number as the octet.
     pub first: u8,

@@ -5,7 +5,7 @@ use beacon::{BeaconAnswer, Hash, Heard, Hearing, IvReport, IvState, Key, Securit
 use octets::{octet_at, read32};
 
 // The state after an operation, and its answer.
-#[derive(Drop)]
+#[derive(Clone, Copy)]
 pub(super) struct StateStep {
     pub state: SecurityState,
     pub answer: Answer,

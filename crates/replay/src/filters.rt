@@ -6,7 +6,7 @@ use octets::{octet_at, read16};
 use proxy_filter::{Filter, FilterStep, PassAnswer};
 
 // The filter after an operation, and its answer.
-#[derive(Drop)]
+#[derive(Clone, Copy)]
 pub(super) struct FilterOutcome {
     pub filter: Filter,
     pub answer: Answer,

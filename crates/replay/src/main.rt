@@ -1,5 +1,6 @@
 // Replays a script: one operation a line in, one answer a line out (docs/REPLAY.md). It keeps the state and the storages between lines; an
 // operation is one call of the library, and the answer what came back.
+#![tactic(auto)]
 mod answers;
 mod beacons;
 mod filters;
@@ -21,7 +22,7 @@ use octets::Written;
 use operations::Held;
 
 // How far the program has come in its input and output, and how many characters of a line it holds.
-#[derive(Drop)]
+#[derive(Clone, Copy)]
 struct Reading {
     streams: Streams,
     characters: usize,
@@ -60,7 +61,7 @@ fn write_answer(before: Streams, answer: Answer, output: &mut [u8]) -> Reading {
 }
 
 // How far the program has come, and what it keeps.
-#[derive(Drop)]
+#[derive(Clone, Copy)]
 struct Progress {
     reading: Reading,
     held: Held,

@@ -58,7 +58,7 @@ pub(super) fn read(x: &[u8]) -> Answer {
 }
 
 // The view: how many octets it is over, which stand at the start of those here, and the place reached.
-#[derive(Drop)]
+#[derive(Clone, Copy)]
 pub(super) struct Viewed {
     pub length: usize,
     pub octets: [u8; 0x0600],
@@ -74,7 +74,7 @@ pub(super) fn no_view() -> Viewed {
 }
 
 // The view after an operation, and its answer.
-#[derive(Drop)]
+#[derive(Clone, Copy)]
 pub(super) struct ViewStep {
     pub viewed: Viewed,
     pub answer: Answer,

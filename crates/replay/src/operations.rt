@@ -14,7 +14,7 @@ use proxy_filter::Filter;
 use script::Arguments;
 
 // All that is kept but the station's area, storage A, which is lent.
-#[derive(Drop)]
+#[derive(Clone, Copy)]
 pub(super) struct Held {
     pub links: [Link; 8],
     pub transfer: Transfer,
@@ -29,7 +29,7 @@ pub(super) struct Held {
 }
 
 // The state after an operation, and its answer.
-#[derive(Drop)]
+#[derive(Clone, Copy)]
 pub(super) struct Step {
     pub held: Held,
     pub answer: Answer,
@@ -111,7 +111,7 @@ fn perform_whole(held: Held, second: u8, area: &mut [u8]) -> Step {
 }
 
 // What an operation is about.
-#[derive(Drop)]
+#[derive(Clone, Copy)]
 enum Subject {
     // Storage A, B or O: fill, write, show and hash.
     Area,

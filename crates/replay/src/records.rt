@@ -8,7 +8,7 @@ use octets::{octet_at, read16, read32};
 use transactions::{Socket, TransactionNumber};
 
 // The records after an operation, and its answer.
-#[derive(Drop)]
+#[derive(Clone, Copy)]
 pub(super) struct Records {
     pub links: [Link; 8],
     pub answer: Answer,

@@ -7,7 +7,7 @@ use links::Link;
 use octets::read16;
 
 // What is kept of the device's end: its record, its own UUID, of any length up to 32 octets, and storage E, its area.
-#[derive(Drop)]
+#[derive(Clone, Copy)]
 pub(super) struct Session {
     pub area: [u8; 0x0600],
     pub own: [u8; 0x20],
@@ -16,7 +16,7 @@ pub(super) struct Session {
 }
 
 // The session after an operation, and its answer.
-#[derive(Drop)]
+#[derive(Clone, Copy)]
 pub(super) struct SessionStep {
     pub session: Session,
     pub answer: Answer,

@@ -5,7 +5,7 @@ use octets::{octet_at, read16};
 use proxy::{ConnectionAnswer, ConnectionSet, HalfTransfer, PieceAnswer, PieceCount, Transfer};
 
 // The transfer after an operation, and its answer.
-#[derive(Drop)]
+#[derive(Clone, Copy)]
 pub(super) struct TransferStep {
     pub transfer: Transfer,
     pub answer: Answer,

@@ -1,9 +1,9 @@
 -- The replay program's language (docs/REPLAY.md): lines of arguments, lines of answers, and the hash.
 use Rattle.std.specs.Prelude.{ℕ, ◌+◌, ◌*◌, ◌-◌, ◌/◌, ◌%◌, Bool, true, ◌&&◌, cond, List, [], ◌∷◌, leb, length, take}
 use Rattle.octets.specs.Parts.{part}
-use Rattle.hex.specs.Hex.{decoded_of, decoded_output, digit_line}
-use Rattle.hex.specs.declared.Decoded.{Decoded}
-use Rattle.hex.specs.declared.Decoded.TheVariants as D
+use Rattle.hexadecimal.specs.Hex.{decoded_of, decoded_output, digit_line}
+use Rattle.hexadecimal.specs.declared.Decoded.{Decoded}
+use Rattle.hexadecimal.specs.declared.Decoded.TheVariants as D
 use Rattle.script.specs.declared.Arguments.{Arguments}
 use Rattle.script.specs.declared.Arguments.TheVariants as A
 use Rattle.script.specs.declared.Outcome.{Outcome}

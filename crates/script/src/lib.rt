@@ -1,18 +1,19 @@
 // The text of the replay program's language (docs/REPLAY.md): the arguments of a line, the line of an answer, and the hash of octets.
 // All numbers have an even count of digits, so arguments and answers are octets, written in hexadecimal.
+#![tactic(auto)]
 ghost use Rattle.std.specs.Prelude.{◌≡◌, true, [], ◌∷◌, ◌+◌, ◌/◌, ◌%◌, ◌≤◌, length, take};
 ghost use Rattle.octets.specs.Writing.{written, output_after};
-ghost use Rattle.hex.specs.Hex.{digit_line};
+ghost use Rattle.hexadecimal.specs.Hex.{digit_line};
 ghost use Rattle.script.specs.Script.{capitals, is_line, arguments_of, arguments_read, arguments_after, outcome_line, hash_step, hash_from};
 
-use hex::Decoded;
+use hexadecimal::Decoded;
 use octets::Written;
 
 // The longest line, its newline left out.
 pub const LONGEST: usize = 8192;
 
 // The arguments of a line.
-#[derive(Drop)]
+#[derive(Clone, Copy)]
 pub enum Arguments {
     // So many octets now stand at the start of the output.
     Octets(usize),
@@ -21,7 +22,7 @@ pub enum Arguments {
 }
 
 // What a line came to.
-#[derive(Drop)]
+#[derive(Clone, Copy)]
 pub enum Outcome {
     // A letter, and so many octets from the start of the values.
     Values { letter: u8, count: usize },
@@ -73,7 +74,7 @@ pub fn read_arguments(line: &[u8], output: &mut [u8]) -> Arguments
         × (output.new ≡ arguments_after line.now output.old) }
 {
     if is_line(line) {
-        let decoded = hex::decode(&line[2..], output);
+        let decoded = hexadecimal::decode(&line[2..], output);
         return arguments_of(decoded);
     }
     Arguments::Malformed
@@ -85,9 +86,9 @@ fn write_values(letter: u8, values: &[u8], count: usize, output: &mut [u8]) -> W
         × (output.new ≡ output_after true (digit_line (letter ∷ []) (take count values.now)) output.old) }
 {
     if values.len() < count {
-        return hex::write_line(&[letter], values, output);
+        return hexadecimal::write_line(&[letter], values, output);
     }
-    hex::write_line(&[letter], &values[0..count], output)
+    hexadecimal::write_line(&[letter], &values[0..count], output)
 }
 
 // A refusal by its number.
@@ -95,7 +96,7 @@ fn write_refusal(n: u8, output: &mut [u8]) -> Written
     ensures { (result ≡ written true (digit_line (33 ∷ (48 + n / 10 % 10) ∷ (48 + n % 10) ∷ []) []) output.old)
         × (output.new ≡ output_after true (digit_line (33 ∷ (48 + n / 10 % 10) ∷ (48 + n % 10) ∷ []) []) output.old) }
 {
-    hex::write_line(&[b'!', 48 + n / 10 % 10, 48 + n % 10], b"", output)
+    hexadecimal::write_line(&[b'!', 48 + n / 10 % 10, 48 + n % 10], b"", output)
 }
 
 // The line of an answer.
@@ -105,9 +106,9 @@ pub fn write_outcome(outcome: Outcome, values: &[u8], output: &mut [u8]) -> Writ
 {
     match outcome {
         Outcome::Values { letter, count } => write_values(letter, values, count, output),
-        Outcome::Done => hex::write_line(b"OK", b"", output),
+        Outcome::Done => hexadecimal::write_line(b"OK", b"", output),
         Outcome::Refused(n) => write_refusal(n, output),
-        Outcome::Malformed => hex::write_line(b"?", b"", output),
+        Outcome::Malformed => hexadecimal::write_line(b"?", b"", output),
     }
 }
 

@@ -1,4 +1,5 @@
 // Reads a message a line in hexadecimal from standard input, and writes the frames of its cut, one a line, to standard output.
+#![tactic(auto)]
 ghost use Rattle.std.specs.Prelude.{◌≤◌, ◌≡◌, length};
 ghost use Rattle.segment_lines.specs.Turns.{PieceHeld, LineEnded, Turn};
 ghost use Rattle.segment_lines.specs.Runs.{Ran};
@@ -8,7 +9,7 @@ use lines::Streams;
 use transactions::TransactionNumber;
 
 // How far the program has come.
-#[derive(Drop)]
+#[derive(Clone, Copy)]
 struct Progress {
     streams: Streams,
     // Characters of the line so far.

@@ -11,8 +11,8 @@ use Rattle.octets.specs.Numbers.{Octets, big16, octets16, octets32}
 use Rattle.octets.proofs.Numbers.{four-octets, number-back}
 use Rattle.octets.specs.Parts.{same}
 use Rattle.octets.proofs.Tests.{cases, both_hold, holds-both}
-use Rattle.hex.specs.Hex.{digit_of, text_of, octets_of}
-use Rattle.hex.proofs.Laws.{octets-back}
+use Rattle.hexadecimal.specs.Hex.{digit_of, text_of, octets_of}
+use Rattle.hexadecimal.proofs.Laws.{octets-back}
 use Rattle.provisioning.specs.Message.{told}
 use Rattle.provisioning.specs.Tables.{capabilities_values}
 use Rattle.provisioning.specs.Promises.{number_octets}

@@ -1,4 +1,5 @@
 // The stock table: a header and rows of the same fifteen columns, each a line at the start of a lent output.
+#![tactic(auto)]
 mod rows;
 mod writing;
 
@@ -8,7 +9,7 @@ pub use rows::{end_row, message_row, record_row, refused_row, socket_row};
 pub use writing::{write_header, write_row};
 
 // Where a row comes from: its columns socket, link_id and number.
-#[derive(Drop)]
+#[derive(Clone, Copy)]
 pub struct Origin {
     pub socket: Field,
     pub id: Field,
@@ -16,14 +17,14 @@ pub struct Origin {
 }
 
 // The eight fields of a Capabilities message, or none.
-#[derive(Drop)]
+#[derive(Clone, Copy)]
 pub enum Stated {
     Nothing,
     Fields(Capabilities),
 }
 
 // A row of the table.
-#[derive(Drop)]
+#[derive(Clone, Copy)]
 pub struct Row {
     pub what: Word,
     pub line: Field,

@@ -10,9 +10,9 @@ use mathlib.Core.Path.{◌≡◌, sym, ap, ◌∙◌, subst}
 use native.Mathlib.Omega.{arith}
 use types.Run.{OneOf, miss}
 use Rattle.octets.specs.Writing.{written, output_after}
-use Rattle.hex.specs.contracts.Decoded.{the_type}
-use Rattle.hex.specs.Hex.{octets_of, decoded_of}
-use Rattle.hex.specs.declared.Decoded.TheVariants.{Octets}
+use Rattle.hexadecimal.specs.contracts.Decoded.{the_type}
+use Rattle.hexadecimal.specs.Hex.{octets_of, decoded_of}
+use Rattle.hexadecimal.specs.declared.Decoded.TheVariants.{Octets}
 use Rattle.hex_lines.proofs.Laws.{read_none, read-nothing, read-message, read_count, read-front}
 use Rattle.hex_lines.specs.Lines.{is_message, line_text, line_next}
 use Rattle.hex_lines.proofs.write_line.Statement.{statement}

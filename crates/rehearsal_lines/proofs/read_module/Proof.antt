@@ -8,8 +8,8 @@ use Prim.Native.Nat.{ℕ}
 use lib.ListN.{drop}
 use lib.Seq.{length-take-le}
 use borrow.Author.Rules.{rules}
-use Rattle.hex.specs.contracts.Decoded.{the_type}
-use Rattle.hex.specs.Hex.{decoded_of, decoded_output}
+use Rattle.hexadecimal.specs.contracts.Decoded.{the_type}
+use Rattle.hexadecimal.specs.Hex.{decoded_of, decoded_output}
 use Rattle.rehearsal_lines.proofs.Channel.{all-behind}
 use Rattle.rehearsal_lines.proofs.Laws.{too_short, too_long, no-space, no-opening, no-message, a-module}
 use Rattle.rehearsal_lines.proofs.read_module.Statement.{statement}

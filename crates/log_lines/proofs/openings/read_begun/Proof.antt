@@ -4,7 +4,7 @@ use denote.Enum.Declared.{tag_of}
 use mathlib.Core.List.{[], ◌∷◌}
 use mathlib.Core.Path.{sym, ◌∙◌, subst}
 use types.Run.{OneOf, miss}
-use Rattle.hex.specs.contracts.Decoded.{the_type}
+use Rattle.hexadecimal.specs.contracts.Decoded.{the_type}
 use Rattle.log_lines.proofs.Laws.{begun-so, all_digits, opening-digits, opening-wrong}
 use borrow.Author.Rules.{rules}
 use Rattle.log_lines.proofs.openings.read_begun.Statement.{statement}

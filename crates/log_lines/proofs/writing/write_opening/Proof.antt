@@ -5,7 +5,7 @@ use mathlib.Core.Path.{sym, ◌∙◌}
 use lib.Dec.{leb}
 use Rattle.octets.proofs.Tests.{both_hold}
 use Rattle.octets.proofs.Writing.{output-wrong}
-use Rattle.hex.specs.Hex.{digit_line}
+use Rattle.hexadecimal.specs.Hex.{digit_line}
 use Rattle.log_lines.proofs.writing.write_opening.Statement.{statement}
 use Rattle.log_lines.proofs.writing.write_opening.Tie as tie
 

@@ -3,7 +3,7 @@ use borrow.Author.Tests.{le-leb, lt-leb}
 use native.Mathlib.Omega.{arith}
 use lib.ListN.{length}
 use Rattle.octets.proofs.Writing.{output-wrong}
-use Rattle.hex.specs.Hex.{digit_line}
+use Rattle.hexadecimal.specs.Hex.{digit_line}
 use Rattle.log_lines.proofs.writing.write_sent.Statement.{statement}
 use Rattle.log_lines.proofs.writing.write_sent.Tie as tie
 

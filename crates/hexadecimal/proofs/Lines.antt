@@ -12,8 +12,8 @@ use Rattle.octets.specs.Writing.{written, output_after}
 use Rattle.octets.specs.declared.Written.TheVariants.{Count, WrongArgument}
 use Rattle.octets.proofs.Parts.{copied-part, write-next, write-octet, write-length}
 use Rattle.octets.proofs.Writing.{written-fits, output-fits, output-short}
-use Rattle.hex.specs.Hex.{text_of, encoded_output, digit_line}
-use Rattle.hex.proofs.Laws.{length-text, encoded-fits}
+use Rattle.hexadecimal.specs.Hex.{text_of, encoded_output, digit_line}
+use Rattle.hexadecimal.proofs.Laws.{length-text, encoded-fits}
 
 module _ (head octets : List ℕ) where
   pub line-long : length (digit_line head octets) ≡ length head + 2 * length octets + 1

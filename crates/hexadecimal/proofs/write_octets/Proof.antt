@@ -5,10 +5,10 @@ use lib.ListN.{length, length-set}
 use lib.Seq.{paste, paste-zero}
 use mathlib.Core.Path.{◌≡◌, refl, ◌∙◌}
 use native.Mathlib.Omega.{arith}
-use Rattle.hex.proofs.Laws.{length-octets, digit_at, octets-turn, written}
-use Rattle.hex.specs.Hex.{octets_of}
-use Rattle.hex.proofs.write_octets.Statement.{statement}
-use Rattle.hex.proofs.write_octets.Tie as tie
+use Rattle.hexadecimal.proofs.Laws.{length-octets, digit_at, octets-turn, written}
+use Rattle.hexadecimal.specs.Hex.{octets_of}
+use Rattle.hexadecimal.proofs.write_octets.Statement.{statement}
+use Rattle.hexadecimal.proofs.write_octets.Tie as tie
 
 abbrev invariant-loop : tie.invariant-loop
 invariant-loop text output₀ j₀ output j = (j ≤ length text / 2) × (length output ≡ length output₀) × (output ≡ paste output₀ 0 (octets_of text) j)

@@ -3,10 +3,10 @@ use Prim.Native.Nat.{◌≤◌, ◌<◌, ◌-◌, ◌*◌}
 use borrow.Author.Rules.{rules}
 use lib.ListN.{length}
 use native.Mathlib.Omega.{arith}
-use Rattle.hex.specs.Hex.{encoded_output}
+use Rattle.hexadecimal.specs.Hex.{encoded_output}
 use Rattle.octets.proofs.Tests.{tests}
-use Rattle.hex.proofs.encode.Statement.{statement}
-use Rattle.hex.proofs.encode.Tie as tie
+use Rattle.hexadecimal.proofs.encode.Statement.{statement}
+use Rattle.hexadecimal.proofs.encode.Tie as tie
 
 returns : tie.Need-returns
 unfolding encoded_output

@@ -3,7 +3,7 @@ use Rattle.std.specs.Prelude.{ℕ, ◌+◌, ◌/◌, ◌%◌, ◌≤◌, ◌<◌
 use Rattle.octets.specs.Numbers.{Octets}
 use Rattle.octets.specs.Told.{refused, answered}
 use Rattle.octets.specs.Tables.{Row, refusal, reply, ByTable}
-use Rattle.hex.specs.Hex.{value_of, digit_of, all_digits, octets_of, text_of, told, decoded_of, decoded_output}
+use Rattle.hexadecimal.specs.Hex.{value_of, digit_of, all_digits, octets_of, text_of, told, decoded_of, decoded_output}
 
 -- 11 for an odd number of characters, one that is no digit, or an output shorter than the octets; else their number
 abbrev pub decoding_rows : List ℕ → List ℕ → List Row

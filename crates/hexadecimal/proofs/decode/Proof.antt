@@ -4,10 +4,10 @@ use borrow.Author.Tests.{not-true, not-false}
 use mathlib.Core.Bool.{true, false}
 use mathlib.Core.Path.{◌≡◌, sym, ◌∙◌}
 use native.Mathlib.Omega.{arith}
-use Rattle.hex.specs.Hex.{all_digits, decoded_of, decoded_output}
+use Rattle.hexadecimal.specs.Hex.{all_digits, decoded_of, decoded_output}
 use Rattle.octets.proofs.Tests.{tests}
-use Rattle.hex.proofs.decode.Statement.{statement}
-use Rattle.hex.proofs.decode.Tie as tie
+use Rattle.hexadecimal.proofs.decode.Statement.{statement}
+use Rattle.hexadecimal.proofs.decode.Tie as tie
 
 no-digits : (c : tie.Then2) → all_digits c.before.before.before.before.before.args.text.now ≡ false
 no-digits c = sym c.before.all_digits.ensures ∙ not-true _ c.if2.true

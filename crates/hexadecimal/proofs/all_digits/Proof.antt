@@ -7,10 +7,10 @@ use lib.ListN.{length, drop, drop_of_length-le}
 use mathlib.Core.Bool.{◌&&◌}
 use mathlib.Core.Path.{◌≡◌, sym, ◌∙◌}
 use native.Mathlib.Omega.{arith}
-use Rattle.hex.proofs.Laws.{digits_step}
-use Rattle.hex.specs.Hex.{all_digits}
-use Rattle.hex.proofs.all_digits.Statement.{statement}
-use Rattle.hex.proofs.all_digits.Tie as tie
+use Rattle.hexadecimal.proofs.Laws.{digits_step}
+use Rattle.hexadecimal.specs.Hex.{all_digits}
+use Rattle.hexadecimal.proofs.all_digits.Statement.{statement}
+use Rattle.hexadecimal.proofs.all_digits.Tie as tie
 
 abbrev invariant-loop : tie.invariant-loop
 invariant-loop text i₀ i = (i ≤ length text) × (all_digits (drop i text) ≡ all_digits text)

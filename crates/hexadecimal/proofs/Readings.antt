@@ -11,9 +11,9 @@ use borrow.Author.Tests.{le-leb, leb-true, leb-false}
 use Rattle.octets.specs.Parts.{write}
 use Rattle.octets.proofs.Parts.{write-front}
 use Rattle.octets.proofs.Tests.{cases}
-use Rattle.hex.specs.Hex.{is_hexadecimal, octets_of, decoded_of, decoded_output}
-use Rattle.hex.specs.declared.Decoded.TheVariants.{Octets, NotHexadecimal, TooLong}
-use Rattle.hex.proofs.Laws.{length-octets}
+use Rattle.hexadecimal.specs.Hex.{is_hexadecimal, octets_of, decoded_of, decoded_output}
+use Rattle.hexadecimal.specs.declared.Decoded.TheVariants.{Octets, NotHexadecimal, TooLong}
+use Rattle.hexadecimal.proofs.Laws.{length-octets}
 
 module _ (line room : List ℕ) where
   -- no digits, or an odd number of them

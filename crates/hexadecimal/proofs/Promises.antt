@@ -12,9 +12,9 @@ use Rattle.octets.specs.Told.{answered}
 use Rattle.octets.proofs.Parts.{write-start}
 use Rattle.octets.proofs.Tables.{by-table}
 use Rattle.octets.proofs.Tests.{cases, lt_not_le}
-use Rattle.hex.specs.Hex.{value_of, digit_of, all_digits, is_hexadecimal, text_of, told, decoded_of, decoded_output}
-use Rattle.hex.specs.Promises.{decoding_rows, DecodingTable, RefusalKeeps, Digits, TextReadsBack}
-use Rattle.hex.proofs.Laws.{length-text, text-hexadecimal, octets-back}
+use Rattle.hexadecimal.specs.Hex.{value_of, digit_of, all_digits, is_hexadecimal, text_of, told, decoded_of, decoded_output}
+use Rattle.hexadecimal.specs.Promises.{decoding_rows, DecodingTable, RefusalKeeps, Digits, TextReadsBack}
+use Rattle.hexadecimal.proofs.Laws.{length-text, text-hexadecimal, octets-back}
 
 pub decoding-table : DecodingTable
 unfolding decoded_of

@@ -2,8 +2,8 @@
 use Rattle.std.specs.Prelude.{ℕ, ◌+◌, ◌*◌, ◌-◌, ◌/◌, ◌%◌, Bool, true, ◌&&◌, cond, List, [], ◌∷◌, ◌++◌, leb, eqb, length}
 use Rattle.octets.specs.Parts.{write, within}
 use Rattle.octets.specs.Told.{Told, refused, answered}
-use Rattle.hex.specs.declared.Decoded.{Decoded}
-use Rattle.hex.specs.declared.Decoded.TheVariants.{Octets, NotHexadecimal, TooLong}
+use Rattle.hexadecimal.specs.declared.Decoded.{Decoded}
+use Rattle.hexadecimal.specs.declared.Decoded.TheVariants.{Octets, NotHexadecimal, TooLong}
 
 -- the value of a digit, of either case; 16 for any other character
 unfoldable pub value_of : ℕ → ℕ

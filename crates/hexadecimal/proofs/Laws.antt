@@ -13,7 +13,7 @@ use borrow.Author.Tests.{le-leb, lt-leb, eq-eqb, leb-true, leb-false}
 use Rattle.octets.specs.Numbers.{Octets}
 use Rattle.octets.specs.Parts.{write}
 use Rattle.octets.proofs.Tests.{cases, both_hold, holds-both}
-use Rattle.hex.specs.Hex.{value_of, digit_of, all_digits, is_hexadecimal, octets_of, text_of, encoded_output}
+use Rattle.hexadecimal.specs.Hex.{value_of, digit_of, all_digits, is_hexadecimal, octets_of, text_of, encoded_output}
 
 -- ---- lengths
 

@@ -5,10 +5,10 @@ use lib.ListN.{length, length-set}
 use lib.Seq.{paste, paste-zero}
 use mathlib.Core.Path.{◌≡◌, refl, ◌∙◌}
 use native.Mathlib.Omega.{arith}
-use Rattle.hex.proofs.Laws.{length-text, text-turn, written}
-use Rattle.hex.specs.Hex.{text_of}
-use Rattle.hex.proofs.write_text.Statement.{statement}
-use Rattle.hex.proofs.write_text.Tie as tie
+use Rattle.hexadecimal.proofs.Laws.{length-text, text-turn, written}
+use Rattle.hexadecimal.specs.Hex.{text_of}
+use Rattle.hexadecimal.proofs.write_text.Statement.{statement}
+use Rattle.hexadecimal.proofs.write_text.Tie as tie
 
 abbrev invariant-loop : tie.invariant-loop
 invariant-loop octets output₀ at j₀ output j = (j ≤ length octets) × (length output ≡ length output₀) × (output ≡ paste output₀ at (text_of octets) (2 * j))

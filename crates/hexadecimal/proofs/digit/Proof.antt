@@ -1,9 +1,9 @@
 -- The definition's test has the value that the branch showed.
 use borrow.Author.Rules.{rules}
-use Rattle.hex.specs.Hex.{digit_of}
+use Rattle.hexadecimal.specs.Hex.{digit_of}
 use Rattle.octets.proofs.Tests.{tests}
-use Rattle.hex.proofs.digit.Statement.{statement}
-use Rattle.hex.proofs.digit.Tie as tie
+use Rattle.hexadecimal.proofs.digit.Statement.{statement}
+use Rattle.hexadecimal.proofs.digit.Tie as tie
 
 add-result : tie.Need-overflow-add-result
 add-result c = search rules

@@ -1,13 +1,14 @@
 // Hexadecimal digits to octets and back, and lines of them.
+#![tactic(auto)]
 ghost use Rattle.std.specs.Prelude.{◌≡◌, true, ◌+◌, ◌*◌, ◌/◌, ◌%◌, ◌≤◌, ◌<◌, length};
 ghost use Rattle.octets.specs.Parts.{write, within};
 ghost use Rattle.octets.specs.Writing.{written, output_after};
-ghost use Rattle.hex.specs.Hex.{value_of, digit_of, all_digits, octets_of, text_of, decoded_of, decoded_output, encoded_output, digit_line};
+ghost use Rattle.hexadecimal.specs.Hex.{value_of, digit_of, all_digits, octets_of, text_of, decoded_of, decoded_output, encoded_output, digit_line};
 
 use octets::Written;
 
 // What reading a text found.
-#[derive(Drop)]
+#[derive(Clone, Copy)]
 pub enum Decoded {
     // An even number of digits: how many octets now stand at the start of the output.
     Octets(usize),

@@ -4,10 +4,10 @@ use lib.Dec.{leb}
 use mathlib.Core.Bool.{false, ◌&&◌}
 use mathlib.Core.Logic.{⊎_elim}
 use mathlib.Core.Path.{◌≡◌}
-use Rattle.hex.specs.Hex.{value_of}
+use Rattle.hexadecimal.specs.Hex.{value_of}
 use Rattle.octets.proofs.Tests.{tests}
-use Rattle.hex.proofs.value.Statement.{statement}
-use Rattle.hex.proofs.value.Tie as tie
+use Rattle.hexadecimal.proofs.value.Statement.{statement}
+use Rattle.hexadecimal.proofs.value.Tie as tie
 
 passed-1 : (c : tie.Joined1) → (leb 48 c.before.args.character && leb c.before.args.character 57) ≡ false
 passed-1 c = ⊎_elim (λ w. search tests) (λ w. search tests) c.if1.branch

@@ -1,9 +1,9 @@
 use borrow.Author.Rules.{rules}
 use lib.ListN.{length-set}
 use native.Mathlib.Omega.{arith}
-use Rattle.hex.proofs.Lines.{line-short, line-count, line-put}
-use Rattle.hex.proofs.write_line.Statement.{statement}
-use Rattle.hex.proofs.write_line.Tie as tie
+use Rattle.hexadecimal.proofs.Lines.{line-short, line-count, line-put}
+use Rattle.hexadecimal.proofs.write_line.Statement.{statement}
+use Rattle.hexadecimal.proofs.write_line.Tie as tie
 
 returns : tie.Need-returns
 returns c =
