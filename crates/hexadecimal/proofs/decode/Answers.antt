@@ -8,27 +8,29 @@ use Rattle.hexadecimal.specs.Hex.{all_digits, decoded_of, decoded_output}
 use Rattle.octets.proofs.Tests.{tests}
 use Rattle.hexadecimal.proofs.decode.Goals as goal
 
-no-digits : (c : tie.Then2) → all_digits c.before.before.before.before.before.args.text.now ≡ false
-no-digits c = sym c.before.all_digits.ensures ∙ not-true _ c.if2.true
-
-digits : (c : tie.Else2) → all_digits c.before.before.before.before.before.args.text.now ≡ true
-digits c = sym c.before.all_digits.ensures ∙ not-false _ c.if2.false
-
 pub returns-then-text-ne0 : goal.returns-then-text-ne0
 unfolding decoded_of decoded_output
 returns-then-text-ne0 c = search tests
 
 pub returns-then-not-all_digits : goal.returns-then-not-all_digits
 unfolding decoded_of decoded_output
-returns-then-not-all_digits c = search (tests, no-digits c)
+returns-then-not-all_digits c =
+    let no-digits : all_digits c.args.text.now ≡ false = sym c.all_digits.ensures ∙ c.if-not-all_digits.true in
+    search (tests, no-digits)
 
 pub returns-then-output-text : goal.returns-then-output-text
 unfolding decoded_of decoded_output
-returns-then-output-text c = search (tests, digits c)
+returns-then-output-text c =
+    let digits : all_digits c.args.text.now ≡ true = sym c.all_digits.ensures ∙ c.if-not-all_digits.false in
+    search (tests, digits)
 
 pub write_octets-requires : goal.write_octets-requires
-write_octets-requires c = (digits c, omega arith)
+write_octets-requires c =
+    let digits : all_digits c.args.text.now ≡ true = sym c.all_digits.ensures ∙ c.if-not-all_digits.false in
+    (digits, omega arith)
 
 pub returns : goal.returns
 unfolding decoded_of decoded_output
-returns c = search (tests, digits c, c.write_octets.ensures)
+returns c =
+    let digits : all_digits c.args.text.now ≡ true = sym c.all_digits.ensures ∙ c.if-not-all_digits.false in
+    search (tests, digits, c.write_octets.ensures)

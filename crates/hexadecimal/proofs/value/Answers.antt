@@ -8,28 +8,33 @@ use Rattle.hexadecimal.specs.Hex.{value_of}
 use Rattle.octets.proofs.Tests.{tests}
 use Rattle.hexadecimal.proofs.value.Goals as goal
 
-passed-1 : (c : tie.Joined1) → (leb 48 c.before.args.character && leb c.before.args.character 57) ≡ false
-passed-1 c = ⊎_elim (λ w. search tests) (λ w. search tests) c.if1.branch
-
-passed-3 : (c : tie.Joined3) → (leb 65 c.before.before.args.character && leb c.before.before.args.character 70) ≡ false
-passed-3 c = ⊎_elim (λ w. search tests) (λ w. search tests) c.if3.branch
-
 pub returns-then-character-le57 : goal.returns-then-character-le57
 unfolding value_of
 returns-then-character-le57 c = search tests
 
 pub returns-then-character-le70 : goal.returns-then-character-le70
 unfolding value_of
-returns-then-character-le70 c = search (tests, passed-1 c)
+returns-then-character-le70 c =
+    let passed-1 : (leb 48 c.args.character && leb c.args.character 57) ≡ false = ⊎_elim (λ w. search tests) (λ w. search tests) c.if-character-ge48.branch in
+    search (tests, passed-1)
 
 pub returns-then-character-le102 : goal.returns-then-character-le102
 unfolding value_of
-returns-then-character-le102 c = search (tests, passed-1 c, passed-3 c)
+returns-then-character-le102 c =
+    let passed-1 : (leb 48 c.args.character && leb c.args.character 57) ≡ false = ⊎_elim (λ w. search tests) (λ w. search tests) c.if-character-ge48.branch in
+    let passed-3 : (leb 65 c.args.character && leb c.args.character 70) ≡ false = ⊎_elim (λ w. search tests) (λ w. search tests) c.if-character-ge65.branch in
+    search (tests, passed-1, passed-3)
 
 pub returns-else-character-le102 : goal.returns-else-character-le102
 unfolding value_of
-returns-else-character-le102 c = search (tests, passed-1 c, passed-3 c)
+returns-else-character-le102 c =
+    let passed-1 : (leb 48 c.args.character && leb c.args.character 57) ≡ false = ⊎_elim (λ w. search tests) (λ w. search tests) c.if-character-ge48.branch in
+    let passed-3 : (leb 65 c.args.character && leb c.args.character 70) ≡ false = ⊎_elim (λ w. search tests) (λ w. search tests) c.if-character-ge65.branch in
+    search (tests, passed-1, passed-3)
 
 pub returns-else-character-ge97 : goal.returns-else-character-ge97
 unfolding value_of
-returns-else-character-ge97 c = search (tests, passed-1 c, passed-3 c)
+returns-else-character-ge97 c =
+    let passed-1 : (leb 48 c.args.character && leb c.args.character 57) ≡ false = ⊎_elim (λ w. search tests) (λ w. search tests) c.if-character-ge48.branch in
+    let passed-3 : (leb 65 c.args.character && leb c.args.character 70) ≡ false = ⊎_elim (λ w. search tests) (λ w. search tests) c.if-character-ge65.branch in
+    search (tests, passed-1, passed-3)
