@@ -1,0 +1,28 @@
+-- One turn of the loop takes one record off the list that is left: `finds`, `looks_on`, `nothing_left`.
+use Prim.Native.Nat.{◌-◌}
+use borrow.Author.Rules.{rules}
+use lib.ListN.{length, drop}
+use mathlib.Core.Path.{◌≡◌}
+use native.Mathlib.Omega.{arith}
+use Rattle.octets.proofs.Loops.{nothing_left}
+use Rattle.link_search.proofs.Laws.{finds, looks_on}
+use Rattle.links.specs.Links.{find_from}
+use Rattle.link_search.proofs.find_link.Goals as goal
+
+pub returns-then-has_id : goal.returns-then-has_id
+returns-then-has_id c =
+    let s = c in
+    finds s.args.links s.args.id s.loop-i.i s.loop-i.invariant.1 (omega arith) c.has_id.ensures c.if-has_id.true
+
+pub loop-i-preserved : goal.loop-i-preserved
+loop-i-preserved c =
+    let s = c in (
+      s.loop-i.invariant.0,
+      looks_on s.args.links s.args.id s.loop-i.i s.loop-i.invariant.1 (omega arith) c.has_id.ensures c.if-has_id.false,
+    )
+
+pub returns : goal.returns
+unfolding find_from
+returns c =
+    let a = c.args in
+    nothing_left (λ l. find_from c.loop-i.i l a.id) a.links c.loop-i.i c.loop-i.invariant.1 (omega arith)

@@ -1,0 +1,16 @@
+use Prim.Native.Nat.{◌-◌}
+use borrow.Author.Rules.{rules}
+use lib.ListN.{length, drop}
+use mathlib.Core.Path.{◌≡◌, refl}
+use native.Mathlib.Omega.{arith}
+use Rattle.octets.proofs.Loops.{goes_on, stops, nothing_left}
+use Rattle.links.specs.Good.{good_link, all}
+use Rattle.links.specs.Station.{no_link}
+use Rattle.link_state.proofs.all_good.Given as goal
+
+abbrev pub invariant-loop-i : goal.invariant-loop-i
+invariant-loop-i l =
+    (length l.links ≡ 8) × (all (good_link l.side) (drop l.i l.links) ≡ all (good_link l.side) l.links)
+
+abbrev pub decreases-loop-i : goal.decreases-loop-i
+decreases-loop-i l = 8 - l.i

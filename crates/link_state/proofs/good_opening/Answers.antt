@@ -1,0 +1,6 @@
+-- By the end.
+use borrow.Author.Rules.{rules}
+use Rattle.link_state.proofs.good_opening.Goals as goal
+
+pub returns-in-Provisioner : goal.returns-in-Provisioner
+returns-in-Provisioner c = simp (c.in-Provisioner.is, c.is_at_rest.ensures)
