@@ -160,8 +160,8 @@ segment-inside f s e =
 
 -- ---- a frame that is no segment
 
-pub no-segment : (p : Parsed) → OneOf (1 ∷ 2 ∷ 3 ∷ 4 ∷ 5 ∷ []) (tag_of the_type p) → NoSegment p
-no-segment (P.Segment s) h = absurd (miss (1 ∷ 2 ∷ 3 ∷ 4 ∷ 5 ∷ []) 0 tt h)
+pub no-segment : (p : Parsed) → ((s : Segment) → p ≡ P.Segment s → ⊥) → NoSegment p
+no-segment (P.Segment s) h = h s refl
 no-segment (P.Acknowledgement id t) h = tt
 no-segment (P.Open id uuid) h = tt
 no-segment (P.Ack id) h = tt
