@@ -1,0 +1,8 @@
+-- The step of the socket's record, stored at its place.
+use borrow.Author.Rules.{rules}
+use Rattle.local_calls.proofs.send_at.Goals as goal
+
+pub returns : goal.returns
+returns c =
+    let d = c in
+    simp (c.store.ensures, d.send-stepped.ensures, d.link_at.ensures, d.place-place.ensures)
