@@ -144,8 +144,8 @@ fn piece_read(streams: Streams, got: isize, input: &[u8]) -> Streams
 // Writes out what waits, and reads on.
 fn read_more<P: Print + Eprint, R: Read>(
     rt: &P,
-    streams: Streams,
     reader: &mut R,
+    streams: Streams,
     input: &mut [u8],
     output: &[u8],
 ) -> Streams
@@ -173,8 +173,8 @@ fn is_left(streams: Streams, input: &[u8], output: &[u8]) -> bool
 // The next piece of the input: of the line begun, or of the next one where the last piece ended its line.
 pub fn next_piece<P: Print + Eprint, R: Read>(
     rt: &P,
-    streams: Streams,
     reader: &mut R,
+    streams: Streams,
     input: &mut [u8],
     output: &[u8],
 ) -> Streams
@@ -185,7 +185,7 @@ pub fn next_piece<P: Print + Eprint, R: Read>(
         let from = next_place(streams);
         return piece_from(streams, input, from, streams.filled);
     }
-    read_more(rt, streams, reader, input, output)
+    read_more(rt, reader, streams, input, output)
 }
 
 // Whether a line is whole of which so many characters are held: a newline ends it, and the end of input a line that has characters. A read that
