@@ -9,7 +9,7 @@ use Rattle.transactions.specs.Numbers.{is_socket, socket_place}
 use Rattle.transactions.specs.declared.Socket.{Socket}
 use Rattle.links.specs.Links.{device, in_use}
 use Rattle.links.specs.Good.{good, good_link}
-use Rattle.links.specs.Station.{no_link, get_link, is_right_lem, link_at, local_send, local_close}
+use Rattle.links.specs.Station.{no_link, get_link, is_right, link_at, local_send, local_close}
 use Rattle.links.specs.Demand3.{Message, ReadyFor, Ready}
 use Rattle.links.specs.Device.{device_of, heard, Session}
 use Rattle.links.specs.declared.Side.TheVariants.{Device}
@@ -34,7 +34,7 @@ module _ (own : List ℕ) (l : Link) (area : List ℕ) where
     is-good : good_link Device l ≡ true
     is-good = good-by-state Device l l.state refl s.not_bad
 
-    is_right_lem : is_right_lem (device own) (device_of l area) ≡ true
+    is_right_lem : is_right (device own) (device_of l area) ≡ true
     is_right_lem = right own l area [] s.uuid s.room is-good
 
     not-bad : good Device (l ∷ []) ≡ true

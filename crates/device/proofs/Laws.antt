@@ -22,7 +22,7 @@ use Rattle.pb_adv.specs.contracts.Parsed.{the_type}
 use Rattle.pb_adv.proofs.Tables.{IsFrame, start, acknowledgement, continuation, opens, acks, closes, Reads, no-frame, unknown, frame, reads}
 use Rattle.links.specs.Links.{device, has_id, in_use}
 use Rattle.links.specs.Good.{good, good_link}
-use Rattle.links.specs.Station.{Station, get_link, put_link, open_step, is_right_lem, judged, at_record, send_step, local_send, close_step, local_close}
+use Rattle.links.specs.Station.{Station, get_link, put_link, open_step, is_right, judged, at_record, send_step, local_send, close_step, local_close}
 use Rattle.links.specs.Device.{device_of, heard}
 use Rattle.links.specs.declared.Side.TheVariants.{Device}
 use Rattle.links.specs.declared.Link.{Link}
@@ -86,7 +86,7 @@ module _ (f : List ℕ) where
 -- ---- the receiving call
 
 module _ (own : List ℕ) (l : Link) (area f : List ℕ) (uuid : length own ≡ 16) (room : length area ≡ 1469) (link_good : good_link Device l ≡ true) where
-  pub right : is_right_lem (device own) (device_of l area) ≡ true
+  pub right : is_right (device own) (device_of l area) ≡ true
   right = rw (eq-eqb (length area) 1469 room, eq-eqb (length own) 16 uuid)
 
   state_good : good Device (l ∷ []) ≡ true

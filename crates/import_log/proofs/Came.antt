@@ -165,7 +165,7 @@ module _ (before : List (List ℕ)) (line : List ℕ) (is_one : is_frame line �
     pub frame : f ≡ segment_frame id t octets index
 
   module _ (n : ℕ) (t : TransactionNumber) (s : Socket) (numbered : is_socket s 8 ≡ true) (at : addressed provisioner τ.links (parsed f) ≡ At (socket_place s))
-      (u : Delivers τ f (frame-octets line is_one) (socket_place s) n t) (m : Message) (same_number_lem : m.number ≡ t)
+      (u : Delivers τ f (frame-octets line is_one) (socket_place s) n t) (m : Message) (same_number : m.number ≡ t)
       (same : part (received provisioner τ f).1.area (1469 * socket_place s) n ≡ m.octets)
       (b : CameByCut provisioner σ s (of_socket s τ).link.id m (past ++ (receiving f ∷ [])))
       (w : OpenedBy provisioner σ s (of_socket s τ).link.id (opening s (of_socket s τ).link.id) b.before) where
@@ -183,7 +183,7 @@ module _ (before : List (List ℕ)) (line : List ℕ) (is_one : is_frame line �
       id = its;
       octets = m.octets;
       opened = (came-since s its m b w).opened;
-      cut = λ g h. cut-since s its m b w g (rw same_number_lem h);
+      cut = λ g h. cut-since s its m b w g (rw same_number h);
       is_for = at;
       stands = same;
       origin = origin-is;
@@ -205,8 +205,8 @@ module _ (before : List (List ℕ)) (line : List ℕ) (is_one : is_frame line �
     long : n ≡ length m.octets
     long = let v = from_cut.valued in cc
 
-    same_number_lem : m.number ≡ t
-    same_number_lem = let v = from_cut.valued in let q : m.number.0 ≡ t.0 = cc in λ i. record { 0 = q i }
+    same_number : m.number ≡ t
+    same_number = let v = from_cut.valued in let q : m.number.0 ≡ t.0 = cc in λ i. record { 0 = q i }
 
     -- its octets are those that stand in the part
     same-octets : part (received provisioner τ f).1.area (1469 * socket_place delivery.socket) n ≡ m.octets
@@ -230,7 +230,7 @@ module _ (before : List (List ℕ)) (line : List ℕ) (is_one : is_frame line �
     came-now : Came τ n t
     came-now =
         came-in n t delivery.socket delivery.numbered delivery.is_for
-        (delivers τ f (frame-octets line is_one) (socket_place delivery.socket) n t delivery.is_for delivered) m same_number_lem same-octets from_cut.came opened
+        (delivers τ f (frame-octets line is_one) (socket_place delivery.socket) n t delivery.is_for delivered) m same_number same-octets from_cut.came opened
 
   pub came : (n : ℕ) (t : TransactionNumber) → (received provisioner (station_in (after_all at_first before)) f).0 ≡ A.Delivered n t
       → Came (station_in (after_all at_first before)) n t

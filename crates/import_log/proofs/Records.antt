@@ -257,7 +257,7 @@ every-further before line row e w other = of (every-record before line row e w) 
         let place : d.place ≡ socket_place t.socket = omega arith in
         let tells = subst (λ (x : Capabilities). Tells row.what first x) fields (subst (λ (u : Word). Tells u first c) what (further-tells first c)) in
         record {
-          is_true_lem = t;
+          is_true = t;
           fields = first;
           recorded = recorded-since before t.socket t.id t.opened (omega arith) first (rw (← place) g);
           repeated = tells.0;

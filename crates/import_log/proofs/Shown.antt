@@ -32,7 +32,7 @@ every-column before line row e w =
     let shown = records-in-place row.what (number_in (after_all at_first before)) (message_origin t.socket t.id t.number) t.octets (message-octets before line row t) (fields_of t.octets) t.accepted in
     let columns = subst (λ (r : Row). RecordColumns row.what (number_in (after_all at_first before)) (message_origin t.socket t.id t.number) t.octets (row_line r)) (sym t.shown) shown in
     record {
-      is_true_lem = t;
+      is_true = t;
       columns = columns;
       static_oob_type = columns.static_oob_type ∙ ap decimal_of (t.places 5 (omega arith));
     }

@@ -181,6 +181,7 @@ module _ (end : End) (σ : Station) (socket : Socket) (m : Message) (P : Prepare
   brings-frame k b cs = rw (ap is_segment (parsed-frame id t octets k (asked k b)), eq-eqb (link_id (segment_frame id t octets k)) id (frame-id id t octets k), index-at id t octets k)
 
   brings-each : (k : ℕ) → k ≤ last → (cs : List Operation) → Memᴰ (receiving (segment_frame id t octets k)) cs → Memᴰ k (brings id cs)
+  brings-each k b [] x' = elim x' [ ]
   brings-each k b (c ∷ cs) (Memᴰ.head e) = subst (λ (o : Operation). Memᴰ k (brings id (o ∷ cs))) e (rw (brings-frame k b cs) (Memᴰ.head refl))
   brings-each k b (c ∷ cs) (Memᴰ.tail h) = brings-more id k c cs (brings-each k b cs h)
 
@@ -209,9 +210,9 @@ module _ (end : End) (σ : Station) (socket : Socket) (m : Message) (P : Prepare
     }
 
     takes : (f : List ℕ) → Memᴰ f (message_frames id t octets) → (k : ℕ) → k ≤ last → f ≡ segment_frame id t octets k → Turn l τ (receiving f)
-    takes f of_cut_lem k b e =
+    takes f of_cut k b e =
         let w = step-inv octets t P.ready.some-octets l (get_link s τ) k b g.inv in
-        own f of_cut_lem refl k (subst (λ (h : List ℕ). (cs : List Operation) → brings id (receiving h ∷ cs) ≡ k ∷ brings id cs) (sym e) (brings-frame k b))
+        own f of_cut refl k (subst (λ (h : List ℕ). (cs : List Operation) → brings id (receiving h ∷ cs) ≡ k ∷ brings id cs) (sym e) (brings-frame k b))
         (ap (λ (r : Answer × Station). r.0) (goes end τ s id g.at t octets k (asked k b) P.ready.number f e) ∙ w.0)
         (record {
           at = stays end τ s id g.at t octets k (asked k b) P.ready.number f e;
@@ -296,12 +297,12 @@ module _ (end : End) (σ : Station) (socket : Socket) (m : Message) (P : Prepare
     frame : List ℕ
     rest : List Operation
     split : cs ≡ before ++ (receiving frame ∷ rest)
-    of_cut_lem : Memᴰ frame (message_frames id t octets)
+    of_cut : Memᴰ frame (message_frames id t octets)
     delivered : (received end (after_all end τ before) frame).0 ≡ A.Delivered (length octets) t
 
   -- one operation before
   earlier : (τ : Station) (c : Operation) (cs : List Operation) → Delivers (operate end τ c).1 cs → Delivers τ (c ∷ cs)
-  earlier τ c cs d = record { before = c ∷ d.before; frame = d.frame; rest = d.rest; split = ap (λ (l : List Operation). c ∷ l) d.split; of_cut_lem = d.of_cut_lem; delivered = d.delivered }
+  earlier τ c cs d = record { before = c ∷ d.before; frame = d.frame; rest = d.rest; split = ap (λ (l : List Operation). c ∷ l) d.split; of_cut = d.of_cut; delivered = d.delivered }
 
   delivers : (a : List ℕ) (cs : List Operation) (τ : Station) → All (MayCome end σ socket m) cs → Going (since_start a) τ
       → complete last (since_start a) ≡ false → complete last (since_start (a ++ brings id cs)) ≡ true → Delivers τ cs
@@ -310,9 +311,9 @@ module _ (end : End) (σ : Station) (socket : Socket) (m : Message) (P : Prepare
     where
       of : Turn (since_start a) τ c → ((b : List ℕ) → Going (since_start b) (operate end τ c).1 → complete last (since_start b) ≡ false
           → complete last (since_start (b ++ brings id cs)) ≡ true → Delivers (operate end τ c).1 cs) → Delivers τ (c ∷ cs)
-      of (own f of_cut_lem e k b u v) r =
+      of (own f of_cut e k b u v) r =
           cases (complete last (since_start (a ++ (k ∷ []))))
-          (λ z. record { before = []; frame = f; rest = cs; split = ap (λ (o : Operation). o ∷ cs) e; of_cut_lem = of_cut_lem; delivered = u ∙ delivery-in octets t a k z n })
+          (λ z. record { before = []; frame = f; rest = cs; split = ap (λ (o : Operation). o ∷ cs) e; of_cut = of_cut; delivered = u ∙ delivery-in octets t a k z n })
           (λ z. earlier τ c cs (r (a ++ (k ∷ [])) (rw (since-start-snoc a k) v) z (rw (append_snoc a k (brings id cs), ← (b cs)) w)))
       of (other b v) r = earlier τ c cs (r a v n (rw (← (b cs)) w))
 
@@ -330,4 +331,4 @@ pub back : Back received
 back end σ s m P cs h comes =
     let w = all_come end σ s m P cs comes in
     let d = delivers end σ s m P [] cs σ h (starts end σ s m P) (complete-nil (seg_n (length m.octets))) w in
-    record { before = d.before; frame = d.frame; rest = d.rest; split = d.split; of_cut_lem = d.of_cut_lem; delivered = ap told d.delivered; stands = stood end σ s m P cs h w }
+    record { before = d.before; frame = d.frame; rest = d.rest; split = d.split; of_cut = d.of_cut; delivered = ap told d.delivered; stands = stood end σ s m P cs h w }

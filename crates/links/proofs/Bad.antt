@@ -217,12 +217,12 @@ free-unused : (state : LinkState) → in_use state ≡ true → state ≢ S.Free
 free-unused state u q = false≢true (sym (ap in_use q) ∙ u)
 
 -- records that are apart
-all_apart : (ls : List Link) → ((i j : ℕ) → i < length ls → j < length ls → i ≢ j → apart (get_or ls i no_link) (get_or ls j no_link) ≡ true) → all_apart ls ≡ true
-all_apart [] h = refl
-all_apart (l ∷ ls) h =
+all_apart_lem : (ls : List Link) → ((i j : ℕ) → i < length ls → j < length ls → i ≢ j → apart (get_or ls i no_link) (get_or ls j no_link) ≡ true) → all_apart ls ≡ true
+all_apart_lem [] h = refl
+all_apart_lem (l ∷ ls) h =
     holds-both
     (all-each (apart l) ls no_link (λ j b. h 0 (suc j) (omega arith) (omega arith) (λ q. absurd (omega arith))))
-    (all_apart ls (λ i j b c d. h (suc i) (suc j) (omega arith) (omega arith) (λ q. d (omega arith))))
+    (all_apart_lem ls (λ i j b c d. h (suc i) (suc j) (omega arith) (omega arith) (λ q. d (omega arith))))
 
 -- two records in use that are apart have different Link IDs
 apart-ids : (a b : Link) → apart a b ≡ true → in_use a.state ≡ true → in_use b.state ≡ true → a.id ≢ b.id
@@ -255,7 +255,7 @@ module _ (side : Side) (ls : List Link) where
       holds-both
       (all-each (good_link side) ls no_link
       (λ i below. good-by-state side (get_or ls i no_link) (get_or ls i no_link).state refl (rw (link-at i) at (b.records (socket_at i) (is-socket i (length ls) below)))))
-      (all_apart ls (λ i j low high d. ids-apart (get_or ls i no_link) (get_or ls j no_link)
+      (all_apart_lem ls (λ i j low high d. ids-apart (get_or ls i no_link) (get_or ls j no_link)
       (λ u v q. d (same_place i j (b.different (socket_at i) (socket_at j) (is-socket i (length ls) low) (is-socket j (length ls) high)
       (rw (link-at i) (free-unused (get_or ls i no_link).state u)) (rw (link-at j) (free-unused (get_or ls j no_link).state v)) (rw (link-at i, link-at j) q))))))
     where

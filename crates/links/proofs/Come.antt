@@ -97,6 +97,7 @@ has-mem j (k ∷ l) h =
     (λ _ e _. Memᴰ.head (sym (eqb-true k j e))) (λ _ _ r. Memᴰ.tail (has-mem j l r)) refl h
 
 pub mem-has : (j : ℕ) (l : List ℕ) → Memᴰ j l → has j l ≡ true
+mem-has j [] x' = elim x' [ ]
 mem-has j (k ∷ l) (Memᴰ.head e) = rw (eq-eqb k j (sym e))
 mem-has j (k ∷ l) (Memᴰ.tail m) = both (λ t. cond t true (has j l) ≡ true) (eqb k j) (λ _. refl) (λ _. mem-has j l m)
 

@@ -76,6 +76,7 @@ since-index (f ∷ fs) =
 -- ---- each segment has come, as frames and by number
 
 mem-map : (f : List ℕ) (fs : List (List ℕ)) → Memᴰ f fs → Memᴰ (index_at f) (map index_at fs)
+mem-map f [] x' = elim x' [ ]
 mem-map f (g ∷ fs) (Memᴰ.head e) = Memᴰ.head (ap index_at e)
 mem-map f (g ∷ fs) (Memᴰ.tail h) = Memᴰ.tail (mem-map f fs h)
 
@@ -86,6 +87,7 @@ record Indexed (k : ℕ) (fs : List (List ℕ)) : Type 0 where
   is : index_at frame ≡ k
 
 map-mem : (k : ℕ) (fs : List (List ℕ)) → Memᴰ k (map index_at fs) → Indexed k fs
+map-mem k [] x' = elim x' [ ]
 map-mem k (g ∷ fs) (Memᴰ.head e) = record { frame = g; among = Memᴰ.head refl; is = sym e }
 map-mem k (g ∷ fs) (Memᴰ.tail h) = let r = map-mem k fs h in record { frame = r.frame; among = Memᴰ.tail r.among; is = r.is }
 

@@ -3,7 +3,7 @@ use Prim.Native.Nat.{ℕ, zero, suc, ◌≤◌, ◌<◌}
 use native.Mathlib.Omega.{arith}
 use mathlib.Core.List.{List, [], ◌∷◌, ◌++◌, append-nil}
 use mathlib.Core.Logic.{◌≢◌}
-use mathlib.Core.Path.{◌≡◌, refl, sym, ap, ◌∙◌}
+use mathlib.Core.Path.{◌≡◌, refl, sym, ap, subst, ◌∙◌}
 use lib.Dec.{eqb}
 use lib.Seq.{append_snoc}
 use borrow.Author.Tests.{eqb-true, eqb-false, ne_eqb}
@@ -106,7 +106,9 @@ module _ {S X K A : Type 0} (key : K → ℕ) (step : S → K → A × S) (n : �
       let ih = part-answers s (step σ k).1 ks (P.ok σ k o r.0) r.1 in
       both (λ t. keep_if t (k, (step σ k).0) (with_key (key_of key) s (answers step (step σ k).1 ks)) ≡ answers one (get s σ) (keep_if t k (with_key key s ks))) (eqb (key k) s)
       (λ e. let q : key k ≡ s = eqb-true (key k) s e in
-      rw (ih, ← q, P.same σ k o r.0, P.answer σ k o r.0))
+      let same : get s (step σ k).1 ≡ (one (get s σ) k).1 = subst (λ (z : ℕ). get z (step σ k).1 ≡ (one (get z σ) k).1) q (P.same σ k o r.0) in
+      let answer : (step σ k).0 ≡ (one (get s σ) k).0 = subst (λ (z : ℕ). (step σ k).0 ≡ (one (get z σ) k).0) q (P.answer σ k o r.0) in
+      rw (ih, same, answer))
       (λ e. ih ∙ ap (λ (x : X). answers one x (with_key key s ks)) (P.other σ k s o r.0 (eqb-false (key k) s e)))
 
   -- calls that are all for one socket
@@ -115,7 +117,9 @@ module _ {S X K A : Type 0} (key : K → ℕ) (step : S → K → A × S) (n : �
   one-key-answers s σ (k ∷ ks) o r =
       both (λ t. answers step σ (keep_if t k (with_key key s ks)) ≡ answers one (get s σ) (keep_if t k (with_key key s ks))) (eqb (key k) s)
       (λ e. let q : key k ≡ s = eqb-true (key k) s e in
-      rw (one-key-answers s (step σ k).1 ks (P.ok σ k o r.0) r.1, ← q, P.same σ k o r.0, P.answer σ k o r.0))
+      let same : get s (step σ k).1 ≡ (one (get s σ) k).1 = subst (λ (z : ℕ). get z (step σ k).1 ≡ (one (get z σ) k).1) q (P.same σ k o r.0) in
+      let answer : (step σ k).0 ≡ (one (get s σ) k).0 = subst (λ (z : ℕ). (step σ k).0 ≡ (one (get z σ) k).0) q (P.answer σ k o r.0) in
+      rw (one-key-answers s (step σ k).1 ks (P.ok σ k o r.0) r.1, same, answer))
       (λ e. one-key-answers s σ ks o r.1)
 
   -- in any mixture, or socket after socket: the same end, and each call has the same answer

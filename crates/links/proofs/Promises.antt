@@ -259,10 +259,10 @@ after-count end σ (c ∷ operations) = after-count end (operate end σ c).1 ope
 
 -- ---- the local calls
 
-is_open : (state : LinkState) → is_open state ≡ true → state ≡ S.Open
-is_open S.Free e = absurd (false≢true e)
-is_open S.Opening e = absurd (false≢true e)
-is_open S.Open e = refl
+is_open_lem : (state : LinkState) → is_open state ≡ true → state ≡ S.Open
+is_open_lem S.Free e = absurd (false≢true e)
+is_open_lem S.Opening e = absurd (false≢true e)
+is_open_lem S.Open e = refl
 
 not_found : (o : Found) → is_found o ≡ false → o ≡ Nowhere
 not_found (At s) e = absurd (false≢true (sym e))
@@ -297,7 +297,7 @@ send-good side s ls right g e =
     let l = link_at ls s in
     let b = both_hold {a = leb 1 s.0} {b = leb s.0 (length ls)} right in
     let below : socket_place s < length ls = omega (arith, leb-true 1 s.0 b.0, leb-true s.0 (length ls) b.1) in
-    let opened = is_open l.state e in
+    let opened = is_open_lem l.state e in
     let o = open-out side l (good-as side l opened (all-at (good_link side) ls (socket_place s) no_link (good-out side ls g).0 below)) in
     good-set side ls (socket_place s) (sending side ls s) g (open_in side (sending side ls s) opened o.0 o.1 o.2) (same_use refl refl)
 

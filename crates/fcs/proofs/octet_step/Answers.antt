@@ -1,0 +1,25 @@
+use borrow.Author.Rules.{rules}
+use Prim.Native.Nat.{ℕ, suc, ◌+◌, ◌-◌, ◌≤◌}
+use mathlib.Core.Path.{◌≡◌, refl, sym, ap, ◌∙◌}
+use native.Mathlib.Omega.{arith}
+use Rattle.fcs.specs.Fcs.{bit_step, bit_steps, octet_step}
+use Rattle.fcs.proofs.octet_step.Goals as goal
+
+-- one step of those that are left
+step : (n m x : ℕ) → n ≡ suc m → bit_steps n x ≡ bit_steps m (bit_step x)
+step n m x e = ap (λ (k : ℕ). bit_steps k x) e
+
+pub loop-done-init : goal.loop-done-init
+unfolding octet_step
+loop-done-init c = (omega arith, refl)
+
+pub loop-done-preserved : goal.loop-done-preserved
+loop-done-preserved c =
+    let l = c.loop-done in
+    (omega arith, rw c.bit_step-x.ensures (sym (step (8 - l.done) (8 - (l.done + 1)) l.x (omega arith)) ∙ l.invariant.1))
+
+pub returns : goal.returns
+returns c =
+    let l = c.loop-done in
+    let none : 8 - l.done ≡ 0 = omega arith in
+    rw none at l.invariant.1

@@ -1,0 +1,31 @@
+use borrow.Author.Rules.{rules}
+use lib.ListN.{length-set}
+use native.Mathlib.Omega.{arith}
+use Rattle.hexadecimal.proofs.Lines.{line-short, line-count, line-put}
+use Rattle.hexadecimal.proofs.write_line.Goals as goal
+
+pub returns-then-output-head : goal.returns-then-output-head
+returns-then-output-head c =
+    let a = c.args in
+    line-short a.head.now a.octets.now a.output.now (omega arith)
+
+pub returns-then-room-lt1 : goal.returns-then-room-lt1
+returns-then-room-lt1 c =
+    let a = c.args in
+    line-short a.head.now a.octets.now a.output.now (omega arith)
+
+pub returns-then-room-octets : goal.returns-then-room-octets
+returns-then-room-octets c =
+    let a = c.args in
+    line-short a.head.now a.octets.now a.output.now (omega arith)
+
+pub shape_of-output : goal.shape_of-output
+shape_of-output c = simp length-set (search rules)
+
+pub returns : goal.returns
+returns c =
+    let a = c.args in (
+      line-count a.head.now a.octets.now a.output.now (omega arith),
+      rw (c.encode.ensures.1, c.copy.ensures.1)
+          (line-put a.head.now a.octets.now a.output.now (omega arith)),
+    )

@@ -1,0 +1,9 @@
+-- By the end.
+use borrow.Author.Rules.{rules}
+use Rattle.link_fields.proofs.first_number.Goals as goal
+
+pub returns-in-Provisioner : goal.returns-in-Provisioner
+returns-in-Provisioner c = simp c.in-Provisioner.is
+
+pub returns-in-Device : goal.returns-in-Device
+returns-in-Device c = simp c.in-Device.is

@@ -1,0 +1,30 @@
+-- The rest of both lists is the same where the whole lists are, one octet at a time.
+use Prim.Native.Nat.{ℕ, ◌≤◌, ◌-◌}
+use borrow.Author.Rules.{rules}
+use borrow.Author.Tests.{eq-eqb, ne_eqb}
+use lib.ListN.{length, drop}
+use mathlib.Core.List.{List}
+use mathlib.Core.Path.{◌≡◌, sym, ◌∙◌}
+use native.Mathlib.Omega.{arith}
+use Rattle.octets.proofs.Parts.{same_step, same_end}
+use Rattle.octets.specs.Parts.{same}
+use Rattle.octet_parts.proofs.same_all.Goals as goal
+
+pub returns-then-a-j : goal.returns-then-a-j
+returns-then-a-j c =
+    let d = c in
+    let a : List ℕ = d.args.a.now in
+    let b : List ℕ = d.args.b.now in
+    (simp (ne_eqb _ _ c.if-a-j.true) at (sym (same_step a b d.loop-j.j (omega arith) (omega arith)))) ∙ d.loop-j.invariant.1
+
+pub loop-j-preserved : goal.loop-j-preserved
+loop-j-preserved c =
+    let d = c in
+    let a : List ℕ = d.args.a.now in
+    let b : List ℕ = d.args.b.now in
+    (omega arith, (simp (eq-eqb _ _ c.if-a-j.false) at (sym (same_step a b d.loop-j.j (omega arith) (omega arith)))) ∙ d.loop-j.invariant.1)
+
+pub returns : goal.returns
+returns c =
+    let d = c in
+    sym (same_end d.args.a.now d.args.b.now d.loop-j.j (omega arith) (omega arith)) ∙ d.loop-j.invariant.1

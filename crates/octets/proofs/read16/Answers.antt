@@ -1,0 +1,10 @@
+use Prim.Native.Nat.{◌+◌}
+use borrow.Author.Rules.{rules}
+use lib.ListN.{get_or-eq_default}
+use native.Mathlib.Omega.{arith}
+use Rattle.octets.proofs.read16.Goals as goal
+
+pub returns-else-at-octets : goal.returns-else-at-octets
+returns-else-at-octets c =
+    let s = c.args.octets.now in
+    rw (get_or-eq_default s 0 {n = c.args.at} (omega arith), get_or-eq_default s 0 {n = c.args.at + 1} (omega arith))

@@ -1,0 +1,17 @@
+-- Each field is what its own read says.
+use borrow.Author.Rules.{rules}
+use Rattle.provisioning.proofs.reading.capabilities.Goals as goal
+
+pub returns : goal.returns
+returns c =
+    let d = c in
+    simp (
+      c.read16-3.ensures,
+      c.octet_at-5.ensures,
+      c.read16-2.ensures,
+      d.octet_at-4.ensures,
+      d.octet_at-3.ensures,
+      d.octet_at-2.ensures,
+      d.read16.ensures,
+      d.octet_at.ensures,
+    )

@@ -1,0 +1,6 @@
+-- Each field is what its own read says.
+use borrow.Author.Rules.{rules}
+use Rattle.provisioning.proofs.reading.choice.Goals as goal
+
+pub returns : goal.returns
+returns c = cc
