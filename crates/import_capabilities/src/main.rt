@@ -1,5 +1,6 @@
 // Reads the log of a tray, from standard input or from the file that its argument names, and writes the stock table to standard output.
 #![tactic(auto)]
+
 ghost use Rattle.std.specs.Prelude.{true, ◌≡◌, ◌≤◌, min, length, replicate};
 ghost use Rattle.octets.specs.Writing.{written, output_after};
 ghost use Rattle.held_line.specs.Lines.{held_text};
@@ -11,10 +12,13 @@ ghost use Rattle.import_capabilities.specs.Runs.{Starts, Ran};
 use held_line::HeldLine;
 use import_log::{Log, Taken};
 use import_tray::Report;
-use libc::STDERR_FILENO;
 use line_fields::MOST;
-use lines::{STANDARD_INPUT, Streams};
+use lines::Streams;
 use octets::Written;
+use std::env::{Env, FillError};
+use std::fs;
+use std::io::Read;
+use std::rt::Files;
 use transactions::Socket;
 
 // How far the program has come.
@@ -49,11 +53,16 @@ fn write_report(report: Report, output: &mut [u8]) -> Written
 }
 
 // The row of a report waits.
-fn put_report(before: Streams, report: Report, output: &mut [u8]) -> Streams
+fn put_report<P: Print + Eprint>(
+    rt: &P,
+    before: Streams,
+    report: Report,
+    output: &mut [u8],
+) -> Streams
     requires { 315 ≤ length output.old }
     ensures { RowWaits before output.old (report_text report) result output.new }
 {
-    let streams = lines::make_room(before, output, MOST);
+    let streams = lines::make_room(rt, before, output, MOST);
     let waiting = streams.waiting;
     let answer = write_report(report, &mut output[waiting..]);
     waits(streams, answer, output)
@@ -86,9 +95,10 @@ fn whole_line(streams: Streams, line: HeldLine) -> HeldLine
 }
 
 // Reads on as far as a line's end, or the end of what is there. Where the line is then whole, it is taken, and its row waits in the output.
-fn take_turn(
+fn take_turn<P: Print + Eprint, R: Read>(
+    rt: &P,
+    reader: &mut R,
     progress: Progress,
-    descriptor: i32,
     input: &mut [u8],
     area: &mut [u8],
     output: &mut [u8],
@@ -96,7 +106,7 @@ fn take_turn(
     requires { 315 ≤ length output.old }
     ensures { Turn progress input.old area.old output.old result input.new area.new output.new }
 {
-    let streams = lines::next_piece(progress.streams, descriptor, input, output);
+    let streams = lines::next_piece(rt, reader, progress.streams, input, output);
     let from = streams.from;
     let to = streams.to;
     let line = held_line::hold_piece(progress.line, &input[from..to]);
@@ -107,7 +117,7 @@ fn take_turn(
         let log = taken.log;
         let report = taken.report;
         return Progress {
-            streams: put_report(streams, report, output),
+            streams: put_report(rt, streams, report, output),
             line: held_line::empty_line(),
             log: log,
         };
@@ -134,52 +144,64 @@ fn begin(output: &mut [u8]) -> Progress
 }
 
 // What is said of a socket after the last line.
-fn put_socket(log: Log, socket: Socket, before: Streams, output: &mut [u8]) -> Streams
+fn put_socket<P: Print + Eprint>(
+    rt: &P,
+    log: Log,
+    socket: Socket,
+    before: Streams,
+    output: &mut [u8],
+) -> Streams
     requires { 315 ≤ length output.old }
     ensures { RowWaits before output.old (report_text (last_report log.tray socket)) result output.new }
 {
     let report = import_tray::last_report(log.tray, socket);
-    put_report(before, report, output)
+    put_report(rt, before, report, output)
 }
 
 // The same of every socket.
-fn put_sockets(log: Log, before: Streams, output: &mut [u8]) -> Streams
+fn put_sockets<P: Print + Eprint>(rt: &P, log: Log, before: Streams, output: &mut [u8]) -> Streams
     requires { 315 ≤ length output.old }
     ensures { SocketsPut log.tray before output.old 8 result output.new }
 {
     let mut streams = before;
     let mut socket: u8 = 1;
     while socket <= 8 {
-        streams = put_socket(log, Socket(socket), streams, output);
+        streams = put_socket(rt, log, Socket(socket), streams, output);
         socket += 1;
     }
     streams
 }
 
 // The rows after the last line.
-fn put_last(log: Log, before: Streams, output: &mut [u8]) -> Streams
+fn put_last<P: Print + Eprint>(rt: &P, log: Log, before: Streams, output: &mut [u8]) -> Streams
     requires { 315 ≤ length output.old }
     ensures { LastPut log before output.old result output.new }
 {
-    let streams = put_sockets(log, before, output);
+    let streams = put_sockets(rt, log, before, output);
     let row = stock_table::end_row(log.lines);
-    put_report(streams, Report::Row(row), output)
+    put_report(rt, streams, Report::Row(row), output)
 }
 
 // At the end of the input the last rows; a table that was cut short has none of them.
-fn put_end(progress: Progress, output: &mut [u8]) -> Streams
+fn put_end<P: Print + Eprint>(rt: &P, progress: Progress, output: &mut [u8]) -> Streams
     requires { 315 ≤ length output.old }
     ensures { EndPut progress output.old result output.new }
 {
     let streams = progress.streams;
     if streams.over {
-        return put_last(progress.log, streams, output);
+        return put_last(rt, progress.log, streams, output);
     }
     streams
 }
 
 // Takes turns for as long as pieces are found, and writes out what still waits. What it then has is handed back so that the contract can speak of it.
-fn run(descriptor: i32, input: &mut [u8], area: &mut [u8], output: &mut [u8]) -> Progress
+fn run<P: Print + Eprint, R: Read>(
+    rt: &P,
+    reader: &mut R,
+    input: &mut [u8],
+    area: &mut [u8],
+    output: &mut [u8],
+) -> Progress
     requires { (area.old ≡ replicate 11752 0) × (315 ≤ length output.old) }
     ensures { Ran input.old output.old result input.new area.new output.new }
 {
@@ -187,7 +209,7 @@ fn run(descriptor: i32, input: &mut [u8], area: &mut [u8], output: &mut [u8]) ->
     // Nothing says that the input ends, so the turns are counted down from a number that no run uses up.
     let mut turns = u64::MAX;
     while turns > 0 {
-        progress = take_turn(progress, descriptor, input, area, output);
+        progress = take_turn(rt, reader, progress, input, area, output);
         let streams = progress.streams;
         if streams.found {
             turns -= 1;
@@ -195,49 +217,60 @@ fn run(descriptor: i32, input: &mut [u8], area: &mut [u8], output: &mut [u8]) ->
             turns = 0;
         }
     }
-    let put = put_end(progress, output);
+    let put = put_end(rt, progress, output);
     let line = progress.line;
     let log = progress.log;
     Progress {
-        streams: lines::flush(put, output),
+        streams: lines::flush(rt, put, output),
         line: line,
         log: log,
     }
 }
 
-// Imports the log that a descriptor has.
-fn import(descriptor: i32) {
+// Imports the log that a reader has.
+fn import<P: Print + Eprint, R: Read>(rt: &P, reader: &mut R) {
     let mut input = io::large_buffer();
     let mut output = io::large_buffer();
     let mut area = [0u8; station::AREA_LENGTH];
-    run(descriptor, &mut input, &mut area, &mut output);
+    run(rt, reader, &mut input, &mut area, &mut output);
 }
 
 // Imports the file of a name.
-fn import_file(name: &[u8]) {
-    let descriptor = os::open_read(name);
-    if descriptor < 0 {
-        os::fail(name);
+fn import_file<H: Files + Print + Eprint>(rt: &H, name: &[u8]) {
+    let Ok(name) = str::from_utf8(name) else {
+        let _ = eprintln!(rt; "the name of the file: not UTF-8");
         return;
+    };
+    match fs::open(rt, name) {
+        Ok(mut file) => import(rt, &mut file),
+        Err(error) => lines::say_failed(rt, name, error),
     }
-    import(descriptor);
 }
 
-fn main() {
-    let arguments = os::arg_count();
-    if arguments <= 1 {
-        import(STANDARD_INPUT);
-        return;
+// Whether there is an argument.
+fn is_given(argument: Result<usize, FillError>) -> bool {
+    match argument {
+        Err(FillError::NotPresent) => false,
+        _ => true,
     }
+}
+
+fn main(rt: HostRuntime) {
     let mut name = io::buffer();
-    let length = os::arg(1, &mut name);
-    if (2 < arguments) | (name[0] == b'-') {
-        io::write_all(STDERR_FILENO, b"usage: import_capabilities [FILE]\n");
+    let first = rt.arg(1, &mut name);
+    if !is_given(first) {
+        import(&rt, &mut rt.stdin());
         return;
     }
-    if os::errno() != 0 {
-        os::fail(b"the name of the file");
+    let second = rt.arg(2, &mut []);
+    if is_given(second) | (name[0] == b'-') {
+        let _ = eprintln!(rt; "usage: import_capabilities [FILE]");
         return;
     }
-    import_file(&name[..length]);
+    match first {
+        Ok(length) => import_file(&rt, &name[..length]),
+        Err(_) => {
+            let _ = eprintln!(rt; "the name of the file: File name too long");
+        }
+    }
 }

@@ -1,23 +1,20 @@
 -- The lines found are those of all that was read (`specs/Lines.antt`).
-use Prim.Native.Nat.{ℕ, zero, suc, ◌+◌, ◌-◌, ◌≤◌, ◌<◌}
-use native.Mathlib.Nat.{add-zero}
-use native.Mathlib.Numerals.{add-one}
+use Prim.Native.Nat.{ℕ, suc, ◌+◌, ◌-◌, ◌≤◌, ◌<◌}
 use native.Mathlib.Omega.{arith}
-use mathlib.Core.Bool.{Bool, true, false, cond, ◌||◌, ◌&&◌, false≢true}
+use mathlib.Core.Bool.{Bool, true, false, cond, false≢true}
 use mathlib.Core.List.{List, [], ◌∷◌, ◌++◌, append_assoc, append-nil}
 use mathlib.Core.Path.{◌≡◌, refl, sym, ap, ◌∙◌, subst}
-use lib.Dec.{leb, ltb, eqb}
+use lib.Dec.{ltb, eqb}
 use lib.ListN.{length, take, drop, take-append-drop, drop_of_length-le, length-append, length-drop}
 use lib.Seq.{length-take-le, take_all, take_at, drop-drop}
-use borrow.Author.Tests.{eqb-true, ltb-true, ltb-false, lt-ltb, le-ltb, le-leb}
-use Rattle.octets.specs.Parts.{part}
+use borrow.Author.Tests.{eqb-true, ltb-true, ltb-false, lt-ltb, le-leb}
 use Rattle.octets.specs.Cut.{joined}
 use Rattle.octets.proofs.Tests.{cases}
 use Rattle.octets.proofs.Parts.{part-take}
 use Rattle.octets.proofs.Cut.{joined-append}
 use Rattle.lines.specs.declared.Streams.{Streams}
 use Rattle.lines.specs.Streams.{newline_in, newline_from, piece_from, piece_in, next_place, with_waiting, is_left, with_over, Found, is_whole}
-use Rattle.lines.specs.Lines.{lines_from, lines_by, ended_from, ended_lines, as_it_stands, Reading, one_if, read_on, at_start, Follows, LinesFound, LinesBegun}
+use Rattle.lines.specs.Lines.{lines_from, lines_by, ended_from, ended_lines, as_it_stands, Reading, one_if, read_on, Follows, LinesFound, LinesBegun}
 use Rattle.lines.specs.Lines.Follows.{begins, goes}
 use Rattle.lines.proofs.Laws.{left-fits}
 
@@ -251,9 +248,9 @@ lines-begun ended input x f n =
     }
 
 -- a line that stays what it is, whatever ended it
-pub line-stands : (ends : Bool) (line : List ℕ) → cond ends (as_it_stands line) line ≡ line
-line-stands true line = refl
-line-stands false line = refl
+pub line-stands : (ends : Bool) (text : List ℕ) → cond ends (as_it_stands text) text ≡ text
+line-stands true _ = refl
+line-stands false _ = refl
 
 -- a program's next call is of the reading so far, where its streams are those of the reading but for what waits
 pub reads_on : {ended : List ℕ → List ℕ} {input : List ℕ} {x : Reading} → Follows ended input x → (s : Streams)

@@ -1,12 +1,12 @@
 -- How a run goes on (`specs/Runs.antt`): at the start, with one turn more, and with the last one.
-use Prim.Native.Nat.{ℕ, suc, ◌+◌, ◌-◌, ◌<◌}
+use Prim.Native.Nat.{ℕ, suc, ◌-◌, ◌<◌}
 use native.Mathlib.Omega.{arith}
 use mathlib.Core.Bool.{true, false, false≢true}
 use mathlib.Core.List.{◌++◌}
 use mathlib.Core.Path.{◌≡◌, refl, sym, ◌∙◌}
 use Rattle.octets.proofs.Tests.{cases}
 use Rattle.lines.specs.Lines.{at_start}
-use Rattle.lines.specs.Runs.{Program, Start, Runs, RunsTo}
+use Rattle.lines.specs.Runs.{Program, Start, RunsTo}
 use Rattle.lines.specs.Runs.Runs.{begins, goes}
 
 pub runs-begin : (P : Program) (ρ : Start P) → (P.streams ρ.state).found ≡ true → RunsTo P ρ ρ.state 18446744073709551615

@@ -1,6 +1,7 @@
 -- How far a program has come in its input and its output. What is read, and whether what is written out is taken, the system answers; all else
 -- is said here.
-use Rattle.std.specs.Prelude.{ℕ, suc, ◌+◌, ◌-◌, ◌≤◌, ◌<◌, Bool, true, false, ◌&&◌, ◌||◌, cond, List, [], ◌∷◌, ◌++◌, ◌≡◌, leb, ltb, eqb, length, take, drop, ℤ, pos, negsuc}
+use Rattle.std.specs.Prelude.{ℕ, suc, ◌+◌, ◌-◌, ◌≤◌, ◌<◌, Bool, true, false, ◌&&◌, ◌||◌, cond, List, [], ◌∷◌, ◌++◌, ◌≡◌, leb, ltb, eqb, length, take, drop, ℤ, pos, negsuc, min, Result, Ok, Err}
+use Rattle.std.specs.declared.io.Error.{Error}
 use Rattle.io.specs.Counts.{clamp_len}
 use Rattle.octets.specs.Parts.{part, write}
 use Rattle.lines.specs.declared.Streams.{Streams}
@@ -93,6 +94,11 @@ is_left s input output = leb s.filled (length input) && (leb s.waiting (length o
 
 abbrev pub with_over : Streams → Bool → Streams
 with_over s over = record { from = s.from; to = s.to; ends = s.ends; filled = s.filled; found = s.found; over = over; waiting = s.waiting; taken = s.taken }
+
+-- the system's answer to a read as a number: how many octets it had, and -1 where it failed
+abbrev pub answer_of : Result ℕ Error → ℤ
+answer_of (Ok count) = pos (min count 9223372036854775807)
+answer_of (Err error) = negsuc 0
 
 -- the system's answer to a read says that the input is at its end: that it read nothing, and did not fail
 abbrev pub is_end : ℤ → Bool

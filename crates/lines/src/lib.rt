@@ -2,13 +2,14 @@
 // buffer holds every line; the text that waits is written out before more input is awaited. Where the system fails to read or to write, a line
 // on standard error says so.
 #![tactic(auto)]
+
 ghost use Rattle.std.specs.Prelude.{◌≡◌, ◌+◌, ◌≤◌, length};
-ghost use Rattle.lines.specs.Streams.{nothing_read, newline_from, piece_from, next_place, Within, with_waiting, Flushed, RoomMade, waiting_after, is_left, piece_read, Read, Found, is_whole};
+ghost use Rattle.lines.specs.Streams.{nothing_read, answer_of, newline_from, piece_from, next_place, Within, with_waiting, Flushed, RoomMade, waiting_after, is_left, piece_read, Read, Found, is_whole};
 
-use libc::{STDIN_FILENO, STDOUT_FILENO};
+mod failures;
 
-// The descriptor of standard input.
-pub const STANDARD_INPUT: i32 = STDIN_FILENO;
+pub use failures::say_failed;
+use std::io::{Error, Read};
 
 // How far a program has come in its input and its output.
 #[derive(Clone, Copy)]
@@ -78,16 +79,18 @@ fn piece_from(streams: Streams, input: &[u8], from: usize, filled: usize) -> Str
 }
 
 // Writes a text out, and answers whether standard output took it. What was not taken is lost, so that is said.
-fn write_out(text: &[u8]) -> bool {
-    let taken = io::write_all(STDOUT_FILENO, text);
-    if !taken {
-        os::fail(b"cannot write standard output");
+fn write_out<P: Print + Eprint>(rt: &P, text: &[u8]) -> bool {
+    match rt.write_all(text) {
+        Ok(()) => true,
+        Err(error) => {
+            say_failed(rt, "cannot write standard output", error);
+            false
+        }
     }
-    taken
 }
 
 // Writes out the text that waits.
-pub fn flush(streams: Streams, output: &[u8]) -> Streams
+pub fn flush<P: Print + Eprint>(rt: &P, streams: Streams, output: &[u8]) -> Streams
     ensures { Flushed streams output.now result × (result.waiting ≡ 0) }
 {
     let waiting = streams.waiting;
@@ -97,7 +100,7 @@ pub fn flush(streams: Streams, output: &[u8]) -> Streams
         return after;
     }
     if after.taken {
-        after.taken = write_out(&output[..waiting]);
+        after.taken = write_out(rt, &output[..waiting]);
     }
     after
 }
@@ -114,13 +117,24 @@ fn next_place(streams: Streams) -> usize
     streams.to
 }
 
+// The system's answer to a read as a number: how many octets it had, 0 at the input's end, and less where it failed, which a line on standard error
+// says.
+fn answer_of<E: Eprint>(rt: &E, answer: Result<usize, Error>) -> isize
+    ensures { result ≡ answer_of answer }
+{
+    match answer {
+        Ok(count) => count.min(isize::MAX as usize) as isize,
+        Err(error) => {
+            say_failed(rt, "cannot read the input", error);
+            -1
+        }
+    }
+}
+
 // The first piece of what was read, as the system answered: 0 at the input's end, and less where it failed.
 fn piece_read(streams: Streams, got: isize, input: &[u8]) -> Streams
     ensures { (result ≡ piece_read streams got input.now) × (result.from ≤ result.to) × (result.to ≤ length input.now) }
 {
-    if got < 0 {
-        os::fail(b"cannot read the input");
-    }
     let filled = io::count(got, input);
     let mut after = piece_from(streams, input, 0, filled);
     after.over = got == 0;
@@ -128,12 +142,19 @@ fn piece_read(streams: Streams, got: isize, input: &[u8]) -> Streams
 }
 
 // Writes out what waits, and reads on.
-fn read_more(streams: Streams, descriptor: i32, input: &mut [u8], output: &[u8]) -> Streams
+fn read_more<P: Print + Eprint, R: Read>(
+    rt: &P,
+    reader: &mut R,
+    streams: Streams,
+    input: &mut [u8],
+    output: &[u8],
+) -> Streams
     ensures { Read streams output.now result input.new × Within result input.new output.now }
 {
-    let flushed = flush(streams, output);
+    let flushed = flush(rt, streams, output);
     if flushed.taken {
-        let got = libc::read(descriptor, input);
+        let answer = reader.read(input);
+        let got = answer_of(rt, answer);
         return piece_read(flushed, got, input);
     }
     piece_from(flushed, input, 0, 0)
@@ -150,7 +171,13 @@ fn is_left(streams: Streams, input: &[u8], output: &[u8]) -> bool
 }
 
 // The next piece of the input: of the line begun, or of the next one where the last piece ended its line.
-pub fn next_piece(streams: Streams, descriptor: i32, input: &mut [u8], output: &[u8]) -> Streams
+pub fn next_piece<P: Print + Eprint, R: Read>(
+    rt: &P,
+    reader: &mut R,
+    streams: Streams,
+    input: &mut [u8],
+    output: &[u8],
+) -> Streams
     ensures { Found streams input.old output.now result input.new
         × Within result input.new output.now }
 {
@@ -158,7 +185,7 @@ pub fn next_piece(streams: Streams, descriptor: i32, input: &mut [u8], output: &
         let from = next_place(streams);
         return piece_from(streams, input, from, streams.filled);
     }
-    read_more(streams, descriptor, input, output)
+    read_more(rt, reader, streams, input, output)
 }
 
 // Whether a line is whole of which so many characters are held: a newline ends it, and the end of input a line that has characters. A read that
@@ -170,17 +197,17 @@ pub fn is_whole(streams: Streams, held: usize) -> bool
 }
 
 // Room for so much more text in the output: where there is less, what waits is written out.
-pub fn make_room(streams: Streams, output: &[u8], room: usize) -> Streams
+pub fn make_room<P: Print + Eprint>(rt: &P, streams: Streams, output: &[u8], room: usize) -> Streams
     ensures { RoomMade streams output.now room result
         × (result.waiting ≤ length output.now)
         × (room ≤ length output.now → result.waiting + room ≤ length output.now) }
 {
     let text = streams.waiting;
     if output.len() < text {
-        return flush(streams, output);
+        return flush(rt, streams, output);
     }
     if output.len() - text < room {
-        return flush(streams, output);
+        return flush(rt, streams, output);
     }
     streams
 }

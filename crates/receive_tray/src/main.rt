@@ -1,7 +1,7 @@
 // Rehearses a tray: eight links are opened, and on each come 100 messages of 1,469 octets, the frames of the eight links mixed and every
 // frame twice. It writes how often each answer was given, and whether the last messages stand in the area as they were sent.
 #![tactic(auto)]
-use libc::STDOUT_FILENO;
+
 use links::{Answer, Link};
 use octets::{LONGEST_MESSAGE, Written};
 use station::AREA_LENGTH;
@@ -173,22 +173,21 @@ fn bring_rounds(tray: Tray, area: &mut [u8], messages: &[u8]) -> Tray {
     after
 }
 
-fn write_count(word: &[u8], count: u32) {
-    io::write_all(STDOUT_FILENO, word);
-    io::print_decimal(STDOUT_FILENO, count as u64);
-    io::write_all(STDOUT_FILENO, b"\n");
+// Where standard output takes no more, nothing says so.
+fn write_count(rt: &impl Print, word: &str, count: u32) {
+    let _ = println!(rt; "{word} {count}");
 }
 
-fn write_tally(tally: Tally) {
-    write_count(b"opened ", tally.opened);
-    write_count(b"kept ", tally.kept);
-    write_count(b"repeat ", tally.repeated);
-    write_count(b"delivered ", tally.delivered);
-    write_count(b"acknowledge again ", tally.again);
-    write_count(b"other ", tally.other);
+fn write_tally(rt: &impl Print, tally: Tally) {
+    write_count(rt, "opened", tally.opened);
+    write_count(rt, "kept", tally.kept);
+    write_count(rt, "repeat", tally.repeated);
+    write_count(rt, "delivered", tally.delivered);
+    write_count(rt, "acknowledge again", tally.again);
+    write_count(rt, "other", tally.other);
 }
 
-fn main() {
+fn main(rt: HostRuntime) {
     let mut area = [0u8; AREA_LENGTH];
     // The messages stand as they will stand in the area.
     let mut messages = [0u8; AREA_LENGTH];
@@ -210,8 +209,8 @@ fn main() {
         &mut area,
     );
     let after = bring_rounds(tray, &mut area, &messages);
-    write_tally(after.tally);
+    write_tally(&rt, after.tally);
     if octet_parts::same_part(&area, 0, &messages, 0, AREA_LENGTH) {
-        io::write_all(STDOUT_FILENO, b"the area holds the messages\n");
+        let _ = println!(rt; "the area holds the messages");
     }
 }

@@ -55,14 +55,15 @@ pub fn to_device(
 }
 
 // The station hears a frame, and has it in its log.
-fn log_heard(
+fn log_heard<P: Print + Eprint>(
+    rt: &P,
     before: Logged,
     socket: Socket,
     area: &mut [u8],
     frame: &[u8],
     output: &mut [u8],
 ) -> Logged {
-    let streams = log::put_heard(before.streams, frame, output);
+    let streams = log::put_heard(rt, before.streams, frame, output);
     Logged {
         end: rehearsal_hosts::station_hears(before.end, socket, area, frame),
         streams: streams,
@@ -70,7 +71,8 @@ fn log_heard(
 }
 
 // A frame comes to the station, or does not.
-pub fn to_station(
+pub fn to_station<P: Print + Eprint>(
+    rt: &P,
     before: Logged,
     fate: Fate,
     socket: Socket,
@@ -80,10 +82,10 @@ pub fn to_station(
 ) -> Logged {
     match fate {
         Fate::Lost => before,
-        Fate::Once => log_heard(before, socket, area, frame, output),
+        Fate::Once => log_heard(rt, before, socket, area, frame, output),
         Fate::Twice => {
-            let once = log_heard(before, socket, area, frame, output);
-            log_heard(once, socket, area, frame, output)
+            let once = log_heard(rt, before, socket, area, frame, output);
+            log_heard(rt, once, socket, area, frame, output)
         }
     }
 }

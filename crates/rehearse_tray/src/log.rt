@@ -13,29 +13,50 @@ fn waits(streams: Streams, answer: Written, output: &[u8]) -> Streams {
 }
 
 // A line that was read is refused.
-pub fn put_refused(before: Streams, line: u64, output: &mut [u8]) -> Streams {
-    let streams = lines::make_room(before, output, log_lines::MOST);
+pub fn put_refused<P: Print + Eprint>(
+    rt: &P,
+    before: Streams,
+    line: u64,
+    output: &mut [u8],
+) -> Streams {
+    let streams = lines::make_room(rt, before, output, log_lines::MOST);
     let waiting = streams.waiting;
     let answer = rehearsal_lines::write_refused(line, &mut output[waiting..]);
     waits(streams, answer, output)
 }
 
-pub fn put_opening(before: Streams, socket: Socket, id: u32, output: &mut [u8]) -> Streams {
-    let streams = lines::make_room(before, output, log_lines::MOST);
+pub fn put_opening<P: Print + Eprint>(
+    rt: &P,
+    before: Streams,
+    socket: Socket,
+    id: u32,
+    output: &mut [u8],
+) -> Streams {
+    let streams = lines::make_room(rt, before, output, log_lines::MOST);
     let waiting = streams.waiting;
     let answer = log_lines::write_opening(socket, id, &mut output[waiting..]);
     waits(streams, answer, output)
 }
 
-pub fn put_sent(before: Streams, frame: &[u8], output: &mut [u8]) -> Streams {
-    let streams = lines::make_room(before, output, log_lines::MOST);
+pub fn put_sent<P: Print + Eprint>(
+    rt: &P,
+    before: Streams,
+    frame: &[u8],
+    output: &mut [u8],
+) -> Streams {
+    let streams = lines::make_room(rt, before, output, log_lines::MOST);
     let waiting = streams.waiting;
     let answer = log_lines::write_sent(frame, &mut output[waiting..]);
     waits(streams, answer, output)
 }
 
-pub fn put_heard(before: Streams, frame: &[u8], output: &mut [u8]) -> Streams {
-    let streams = lines::make_room(before, output, log_lines::MOST);
+pub fn put_heard<P: Print + Eprint>(
+    rt: &P,
+    before: Streams,
+    frame: &[u8],
+    output: &mut [u8],
+) -> Streams {
+    let streams = lines::make_room(rt, before, output, log_lines::MOST);
     let waiting = streams.waiting;
     let answer = log_lines::write_heard(frame, &mut output[waiting..]);
     waits(streams, answer, output)

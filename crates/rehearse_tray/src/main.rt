@@ -1,6 +1,7 @@
 // Rehearses a tray without modules: it reads which modules there are and how much the channel loses and repeats, runs the station and the devices
 // against each other, and writes the station's log (docs/REHEARSAL.md).
 #![tactic(auto)]
+
 mod ends;
 mod given;
 mod log;
@@ -16,6 +17,7 @@ use lossy_channel::Channel;
 use octets::LONGEST_MESSAGE;
 use rehearsal_lines::Line;
 use station::AREA_LENGTH;
+use std::io::Read;
 use transactions::Socket;
 use tray::Tray;
 
@@ -40,11 +42,11 @@ struct Taken {
     streams: Streams,
 }
 
-fn refuse(before: Taken, number: u64, output: &mut [u8]) -> Taken {
+fn refuse<P: Print + Eprint>(rt: &P, before: Taken, number: u64, output: &mut [u8]) -> Taken {
     let given = before.given;
     Taken {
         given: given,
-        streams: log::put_refused(before.streams, number, output),
+        streams: log::put_refused(rt, before.streams, number, output),
     }
 }
 
@@ -54,10 +56,16 @@ fn is_long(line: &[u8]) -> bool {
 }
 
 // A line that gives the channel.
-fn take_channel(before: Taken, number: u64, channel: Channel, output: &mut [u8]) -> Taken {
+fn take_channel<P: Print + Eprint>(
+    rt: &P,
+    before: Taken,
+    number: u64,
+    channel: Channel,
+    output: &mut [u8],
+) -> Taken {
     let given = before.given;
     if given.mixed {
-        return refuse(before, number, output);
+        return refuse(rt, before, number, output);
     }
     let streams = before.streams;
     Taken {
@@ -67,7 +75,8 @@ fn take_channel(before: Taken, number: u64, channel: Channel, output: &mut [u8])
 }
 
 // A line that gives a module, whose message goes to its socket's place.
-fn take_module(
+fn take_module<P: Print + Eprint>(
+    rt: &P,
     before: Taken,
     number: u64,
     socket: Socket,
@@ -79,7 +88,7 @@ fn take_module(
     let given = before.given;
     let modules = given.modules;
     if !given::is_new(modules, socket, module.id) {
-        return refuse(before, number, output);
+        return refuse(rt, before, number, output);
     }
     let place = socket.place();
     octet_parts::copy(messages, LONGEST_MESSAGE * place, message, 0, module.length);
@@ -91,7 +100,8 @@ fn take_module(
 }
 
 // What a line says, and the message that it may have.
-fn take_said(
+fn take_said<P: Print + Eprint>(
+    rt: &P,
     before: Taken,
     number: u64,
     said: Line,
@@ -101,24 +111,27 @@ fn take_said(
 ) -> Taken {
     match said {
         Line::Passed => before,
-        Line::Other => refuse(before, number, output),
+        Line::Other => refuse(rt, before, number, output),
         Line::Channel {
             seed,
             lost,
             repeated,
         } => {
             let channel = lossy_channel::new(seed, lost, repeated);
-            take_channel(before, number, channel, output)
+            take_channel(rt, before, number, channel, output)
         }
         Line::Module { socket, id, length } => {
             let module = Module { id, length };
-            take_module(before, number, socket, module, message, messages, output)
+            take_module(
+                rt, before, number, socket, module, message, messages, output,
+            )
         }
     }
 }
 
 // Takes a line.
-fn take_line(
+fn take_line<P: Print + Eprint>(
+    rt: &P,
     before: Taken,
     number: u64,
     line: &[u8],
@@ -126,19 +139,26 @@ fn take_line(
     output: &mut [u8],
 ) -> Taken {
     if is_long(line) {
-        return refuse(before, number, output);
+        return refuse(rt, before, number, output);
     }
     let mut message = [0u8; LONGEST_MESSAGE];
     let said = rehearsal_lines::read_line(line, &mut message);
-    take_said(before, number, said, &message, messages, output)
+    take_said(rt, before, number, said, &message, messages, output)
 }
 
 // Reads on as far as a line's end, or the end of what is there.
-fn read_on(reading: Reading, input: &mut [u8], line: &mut [u8], output: &[u8]) -> Reading
+fn read_on<P: Print + Eprint, R: Read>(
+    rt: &P,
+    reader: &mut R,
+    reading: Reading,
+    input: &mut [u8],
+    line: &mut [u8],
+    output: &[u8],
+) -> Reading
     ensures { result.held ≤ length line.new }
 {
     let given = reading.given;
-    let streams = lines::next_piece(reading.streams, lines::STANDARD_INPUT, input, output);
+    let streams = lines::next_piece(rt, reader, reading.streams, input, output);
     let from = streams.from;
     let to = streams.to;
     Reading {
@@ -167,14 +187,16 @@ fn next_number(lines: u64) -> u64 {
 }
 
 // Reads on, and takes the line if it is whole.
-fn read_next(
+fn read_next<P: Print + Eprint, R: Read>(
+    rt: &P,
+    reader: &mut R,
     reading: Reading,
     input: &mut [u8],
     line: &mut [u8],
     messages: &mut [u8],
     output: &mut [u8],
 ) -> Reading {
-    let read = read_on(reading, input, line, output);
+    let read = read_on(rt, reader, reading, input, line, output);
     let streams = read.streams;
     if lines::is_whole(streams, read.held) {
         let number = next_number(read.lines);
@@ -184,7 +206,7 @@ fn read_next(
             given: given,
             streams: streams,
         };
-        let taken = take_line(before, number, &line[..count], messages, output);
+        let taken = take_line(rt, before, number, &line[..count], messages, output);
         let after = taken.given;
         let written = taken.streams;
         return Reading {
@@ -209,7 +231,9 @@ fn begin() -> Reading {
 }
 
 // Reads all lines.
-fn read_lines(
+fn read_lines<P: Print + Eprint, R: Read>(
+    rt: &P,
+    reader: &mut R,
     input: &mut [u8],
     line: &mut [u8],
     messages: &mut [u8],
@@ -219,7 +243,7 @@ fn read_lines(
     // Nothing says that the input ends, so the pieces are counted down from a number that no run uses up.
     let mut pieces = u64::MAX;
     while pieces > 0 {
-        reading = read_next(reading, input, line, messages, output);
+        reading = read_next(rt, reader, reading, input, line, messages, output);
         let streams = reading.streams;
         if streams.found {
             pieces -= 1;
@@ -230,11 +254,16 @@ fn read_lines(
     reading
 }
 
-fn open_all(before: Tray, modules: [Module; 8], output: &mut [u8]) -> Tray {
+fn open_all<P: Print + Eprint>(
+    rt: &P,
+    before: Tray,
+    modules: [Module; 8],
+    output: &mut [u8],
+) -> Tray {
     let mut tray = before;
     let mut place: u8 = 0;
     while place < 8 {
-        tray = turns::open_socket(tray, Socket(place + 1), modules[place as usize], output);
+        tray = turns::open_socket(rt, tray, Socket(place + 1), modules[place as usize], output);
         place += 1;
     }
     tray
@@ -273,7 +302,8 @@ fn next_turn(mixed: bool, drawn: u32, turn: u32) -> u32
 }
 
 // The turn of an end, by its number of 16.
-fn serve_end(
+fn serve_end<P: Print + Eprint>(
+    rt: &P,
     before: Tray,
     modules: [Module; 8],
     number: u32,
@@ -287,13 +317,14 @@ fn serve_end(
     let socket = Socket((number / 2 + 1) as u8);
     let module = given::module_at(modules, socket.place());
     if number % 2 == 0 {
-        return turns::station_turn(before, socket, module.id, areas, output);
+        return turns::station_turn(rt, before, socket, module.id, areas, output);
     }
-    turns::device_turn(before, socket, module, area, messages, output)
+    turns::device_turn(rt, before, socket, module, area, messages, output)
 }
 
 // One turn.
-fn serve(
+fn serve<P: Print + Eprint>(
+    rt: &P,
     before: Tray,
     given: Given,
     turn: u32,
@@ -306,11 +337,12 @@ fn serve(
     let drawn = tray::with_progress(before, channel, before.streams);
     let number = next_turn(given.mixed, channel.number, turn);
     let modules = given.modules;
-    serve_end(drawn, modules, number, area, areas, messages, output)
+    serve_end(rt, drawn, modules, number, area, areas, messages, output)
 }
 
 // Turns until all is closed, or there were enough.
-fn take_turns(
+fn take_turns<P: Print + Eprint>(
+    rt: &P,
     before: Tray,
     given: Given,
     area: &mut [u8],
@@ -324,7 +356,7 @@ fn take_turns(
         if is_over(tray) {
             turn = TURNS;
         } else {
-            tray = serve(tray, given, turn, area, areas, messages, output);
+            tray = serve(rt, tray, given, turn, area, areas, messages, output);
             turn += 1;
         }
     }
@@ -332,19 +364,26 @@ fn take_turns(
 }
 
 // The station closes what is still open, and sends each Close that is due, in three rounds over the sockets.
-fn give_up_rest(before: Tray, modules: [Module; 8], areas: &mut [u8], output: &mut [u8]) -> Tray {
+fn give_up_rest<P: Print + Eprint>(
+    rt: &P,
+    before: Tray,
+    modules: [Module; 8],
+    areas: &mut [u8],
+    output: &mut [u8],
+) -> Tray {
     let mut tray = before;
     let mut turn: u8 = 0;
     while turn < 24 {
         let module = modules[turn as usize % 8];
-        tray = turns::give_up(tray, Socket(turn % 8 + 1), module.id, areas, output);
+        tray = turns::give_up(rt, tray, Socket(turn % 8 + 1), module.id, areas, output);
         turn += 1;
     }
     tray
 }
 
 // From the openings to the last Close.
-fn run_tray(
+fn run_tray<P: Print + Eprint>(
+    rt: &P,
     new: Tray,
     given: Given,
     area: &mut [u8],
@@ -353,42 +392,67 @@ fn run_tray(
     output: &mut [u8],
 ) -> Tray {
     let modules = given.modules;
-    let opened = open_all(new, modules, output);
-    let served = take_turns(opened, given, area, areas, messages, output);
-    give_up_rest(served, modules, areas, output)
+    let opened = open_all(rt, new, modules, output);
+    let served = take_turns(rt, opened, given, area, areas, messages, output);
+    give_up_rest(rt, served, modules, areas, output)
 }
 
-fn rehearse(given: Given, streams: Streams, messages: &[u8], output: &mut [u8]) -> Streams {
+fn rehearse<P: Print + Eprint>(
+    rt: &P,
+    given: Given,
+    streams: Streams,
+    messages: &[u8],
+    output: &mut [u8],
+) -> Streams {
     let mut area = [0u8; AREA_LENGTH];
     let mut areas = [0u8; AREA_LENGTH];
     let modules = given.modules;
     let new = tray::new_tray(modules, given.channel, streams);
-    let closed = run_tray(new, given, &mut area, &mut areas, messages, output);
+    let closed = run_tray(rt, new, given, &mut area, &mut areas, messages, output);
     closed.streams
 }
 
 // Where the input could not be read to its end, nothing is rehearsed.
-fn rehearse_read(reading: Reading, messages: &[u8], output: &mut [u8]) -> Streams {
+fn rehearse_read<P: Print + Eprint>(
+    rt: &P,
+    reading: Reading,
+    messages: &[u8],
+    output: &mut [u8],
+) -> Streams {
     let given = reading.given;
     let streams = reading.streams;
     if streams.over {
-        return rehearse(given, streams, messages, output);
+        return rehearse(rt, given, streams, messages, output);
     }
     streams
 }
 
-fn run(input: &mut [u8], line: &mut [u8], messages: &mut [u8], output: &mut [u8]) {
-    let reading = read_lines(input, line, messages, output);
-    let streams = rehearse_read(reading, messages, output);
-    lines::flush(streams, output);
+fn run<P: Print + Eprint, R: Read>(
+    rt: &P,
+    reader: &mut R,
+    input: &mut [u8],
+    line: &mut [u8],
+    messages: &mut [u8],
+    output: &mut [u8],
+) {
+    let reading = read_lines(rt, reader, input, line, messages, output);
+    let streams = rehearse_read(rt, reading, messages, output);
+    lines::flush(rt, streams, output);
 }
 
-fn main() {
+fn main(rt: HostRuntime) {
     let mut input = io::large_buffer();
     let mut output = io::large_buffer();
     // The longest line but for a comment, a carriage return, and one character more.
     let mut line = [0u8; rehearsal_lines::LONGEST + 2];
     // The modules' messages, each at its socket's place.
     let mut messages = [0u8; AREA_LENGTH];
-    run(&mut input, &mut line, &mut messages, &mut output);
+    run(
+        &rt,
+        &mut rt.stdin(),
+        &mut input,
+        &mut line,
+        &mut messages,
+        &mut output,
+    );
 }

@@ -50,19 +50,26 @@ fn frame_of(sending: Sending, id: u32, socket: Socket, message: &[u8], frame: &m
 }
 
 // Opens a socket that has a module.
-pub fn open_socket(before: Tray, socket: Socket, module: Module, output: &mut [u8]) -> Tray {
+pub fn open_socket<P: Print + Eprint>(
+    rt: &P,
+    before: Tray,
+    socket: Socket,
+    module: Module,
+    output: &mut [u8],
+) -> Tray {
     if module.length == 0 {
         return before;
     }
     let end = tray::station_at(before, socket.place());
     let opened = rehearsal_hosts::open_link(end, socket, module.id);
-    let streams = log::put_opening(before.streams, socket, module.id, output);
+    let streams = log::put_opening(rt, before.streams, socket, module.id, output);
     let on = tray::with_progress(before, before.channel, streams);
     tray::with_station(on, socket.place(), opened)
 }
 
 // A frame that the station sends.
-fn send_to_device(
+fn send_to_device<P: Print + Eprint>(
+    rt: &P,
     before: Tray,
     socket: Socket,
     areas: &mut [u8],
@@ -70,7 +77,7 @@ fn send_to_device(
     output: &mut [u8],
 ) -> Tray {
     let place = socket.place();
-    let streams = log::put_sent(before.streams, frame, output);
+    let streams = log::put_sent(rt, before.streams, frame, output);
     let carried = lossy_channel::carry(before.channel);
     let fate = carried.fate;
     let host = ends::to_device(tray::device_at(before, place), fate, socket, areas, frame);
@@ -79,7 +86,8 @@ fn send_to_device(
 }
 
 // The station sends what it has to send at a socket.
-fn station_sends(
+fn station_sends<P: Print + Eprint>(
+    rt: &P,
     before: Tray,
     socket: Socket,
     id: u32,
@@ -97,11 +105,12 @@ fn station_sends(
     if count == 0 {
         return after;
     }
-    send_to_device(after, socket, areas, &frame[..count], output)
+    send_to_device(rt, after, socket, areas, &frame[..count], output)
 }
 
 // The station's turn at a socket.
-pub fn station_turn(
+pub fn station_turn<P: Print + Eprint>(
+    rt: &P,
     before: Tray,
     socket: Socket,
     id: u32,
@@ -110,18 +119,26 @@ pub fn station_turn(
 ) -> Tray {
     let end = tray::station_at(before, socket.place());
     let closed = rehearsal_hosts::close_answered(end, socket);
-    station_sends(before, socket, id, closed, areas, output)
+    station_sends(rt, before, socket, id, closed, areas, output)
 }
 
 // The station gives a socket up: it closes the link, and sends a Close that is due.
-pub fn give_up(before: Tray, socket: Socket, id: u32, areas: &mut [u8], output: &mut [u8]) -> Tray {
+pub fn give_up<P: Print + Eprint>(
+    rt: &P,
+    before: Tray,
+    socket: Socket,
+    id: u32,
+    areas: &mut [u8],
+    output: &mut [u8],
+) -> Tray {
     let end = tray::station_at(before, socket.place());
     let closed = rehearsal_hosts::close_link(end, socket, TIMED_OUT);
-    station_sends(before, socket, id, closed, areas, output)
+    station_sends(rt, before, socket, id, closed, areas, output)
 }
 
 // A frame that a device sends.
-fn send_to_station(
+fn send_to_station<P: Print + Eprint>(
+    rt: &P,
     before: Tray,
     socket: Socket,
     area: &mut [u8],
@@ -136,13 +153,14 @@ fn send_to_station(
         end: tray::station_at(before, place),
         streams: streams,
     };
-    let heard = ends::to_station(logged, fate, socket, area, frame, output);
+    let heard = ends::to_station(rt, logged, fate, socket, area, frame, output);
     let after = tray::with_station(before, place, heard.end);
     tray::with_progress(after, carried.channel, heard.streams)
 }
 
 // A device sends what it has to send, of its message or else.
-fn device_sends(
+fn device_sends<P: Print + Eprint>(
+    rt: &P,
     before: Tray,
     socket: Socket,
     id: u32,
@@ -159,11 +177,12 @@ fn device_sends(
     if count == 0 {
         return after;
     }
-    send_to_station(after, socket, area, &frame[..count], output)
+    send_to_station(rt, after, socket, area, &frame[..count], output)
 }
 
 // The turn of the device at a socket. The messages stand at their sockets' places.
-pub fn device_turn(
+pub fn device_turn<P: Print + Eprint>(
+    rt: &P,
     before: Tray,
     socket: Socket,
     module: Module,
@@ -181,5 +200,5 @@ pub fn device_turn(
         return before;
     }
     let message = &messages[from..from + length];
-    device_sends(before, socket, module.id, message, area, output)
+    device_sends(rt, before, socket, module.id, message, area, output)
 }

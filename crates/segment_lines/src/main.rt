@@ -1,11 +1,13 @@
 // Reads a message a line in hexadecimal from standard input, and writes the frames of its cut, one a line, to standard output.
 #![tactic(auto)]
+
 ghost use Rattle.std.specs.Prelude.{◌≤◌, ◌≡◌, length};
 ghost use Rattle.segment_lines.specs.Turns.{PieceHeld, LineEnded, Turn};
 ghost use Rattle.segment_lines.specs.Runs.{Ran};
 
 use hex_lines::LineWritten;
 use lines::Streams;
+use std::io::Read;
 use transactions::TransactionNumber;
 
 // How far the program has come.
@@ -20,11 +22,18 @@ struct Progress {
 
 // Reads on as far as a line's end, or the end of what is there. A line that fills its buffer is longer than any message, and refused whatever
 // follows.
-fn read_on(progress: Progress, input: &mut [u8], line: &mut [u8], output: &[u8]) -> Progress
+fn read_on<P: Print + Eprint, R: Read>(
+    rt: &P,
+    reader: &mut R,
+    progress: Progress,
+    input: &mut [u8],
+    line: &mut [u8],
+    output: &[u8],
+) -> Progress
     requires { progress.held ≤ length line.old }
     ensures { PieceHeld progress input.old line.old output.now result input.new line.new }
 {
-    let streams = lines::next_piece(progress.streams, lines::STANDARD_INPUT, input, output);
+    let streams = lines::next_piece(rt, reader, progress.streams, input, output);
     let from = streams.from;
     let to = streams.to;
     let number = progress.number;
@@ -36,13 +45,18 @@ fn read_on(progress: Progress, input: &mut [u8], line: &mut [u8], output: &[u8])
 }
 
 // Ends the line: its text waits in the output, which has room for any.
-fn end_line(progress: Progress, line: &[u8], output: &mut [u8]) -> Progress
+fn end_line<P: Print + Eprint>(
+    rt: &P,
+    progress: Progress,
+    line: &[u8],
+    output: &mut [u8],
+) -> Progress
     requires { (progress.held ≤ length line.now) × (3776 ≤ length output.old) }
     ensures { LineEnded progress line.now output.old result output.new }
 {
     let held = progress.held;
     let number = progress.number;
-    let streams = lines::make_room(progress.streams, output, hex_lines::MOST);
+    let streams = lines::make_room(rt, progress.streams, output, hex_lines::MOST);
     let waiting = streams.waiting;
     let answer = hex_lines::write_line(number, &line[..held], &mut output[waiting..]);
     let LineWritten::Text { length, next } = answer else {
@@ -60,19 +74,32 @@ fn end_line(progress: Progress, line: &[u8], output: &mut [u8]) -> Progress
     }
 }
 
-fn take_turn(progress: Progress, input: &mut [u8], line: &mut [u8], output: &mut [u8]) -> Progress
+fn take_turn<P: Print + Eprint, R: Read>(
+    rt: &P,
+    reader: &mut R,
+    progress: Progress,
+    input: &mut [u8],
+    line: &mut [u8],
+    output: &mut [u8],
+) -> Progress
     requires { (progress.held ≤ length line.old) × (3776 ≤ length output.old) }
     ensures { Turn progress input.old line.old output.old result input.new line.new output.new }
 {
-    let read = read_on(progress, input, line, output);
+    let read = read_on(rt, reader, progress, input, line, output);
     if lines::is_whole(read.streams, read.held) {
-        return end_line(read, line, output);
+        return end_line(rt, read, line, output);
     }
     read
 }
 
 // Takes turns for as long as input is found, and writes out what still waits. What it then has is handed back so that the contract can speak of it.
-fn run(input: &mut [u8], line: &mut [u8], output: &mut [u8]) -> Progress
+fn run<P: Print + Eprint, R: Read>(
+    rt: &P,
+    reader: &mut R,
+    input: &mut [u8],
+    line: &mut [u8],
+    output: &mut [u8],
+) -> Progress
     requires { (length line.old ≡ 2939) × (3776 ≤ length output.old) }
     ensures { Ran input.old line.old output.old result input.new line.new output.new }
 {
@@ -84,7 +111,7 @@ fn run(input: &mut [u8], line: &mut [u8], output: &mut [u8]) -> Progress
     // Nothing says that the input ends, so the turns are counted down from a number that no run uses up.
     let mut turns = u64::MAX;
     while turns > 0 {
-        progress = take_turn(progress, input, line, output);
+        progress = take_turn(rt, reader, progress, input, line, output);
         let streams = progress.streams;
         if streams.found {
             turns -= 1;
@@ -94,16 +121,16 @@ fn run(input: &mut [u8], line: &mut [u8], output: &mut [u8]) -> Progress
     }
     let number = progress.number;
     Progress {
-        streams: lines::flush(progress.streams, output),
+        streams: lines::flush(rt, progress.streams, output),
         held: progress.held,
         number: number,
     }
 }
 
-fn main() {
+fn main(rt: HostRuntime) {
     let mut input = io::large_buffer();
     let mut output = io::large_buffer();
     // One character more than the longest message has digits.
     let mut line = [0u8; 2939];
-    run(&mut input, &mut line, &mut output);
+    run(&rt, &mut rt.stdin(), &mut input, &mut line, &mut output);
 }
