@@ -65,18 +65,18 @@ module _ (f : List ℕ) where
       of p (frame m n r) e = by-frame p r m e
 
   -- another kind of frame
-  pub not-open : OneOf (0 ∷ 1 ∷ 3 ∷ 4 ∷ 5 ∷ []) (tag_of the_type (parsed f)) → malformed f ≡ false → is_control 0 f ≡ false
+  pub not-open : ((id uuid : ℕ) → parsed f ≡ P.Open id uuid → ⊥) → malformed f ≡ false → is_control 0 f ≡ false
   not-open h fits = of (parsed f) (reads f) h
     where
-      by-frame : (p : Parsed) → IsFrame f p → OneOf (0 ∷ 1 ∷ 3 ∷ 4 ∷ 5 ∷ []) (tag_of the_type p) → is_control 0 f ≡ false
+      by-frame : (p : Parsed) → IsFrame f p → ((id uuid : ℕ) → p ≡ P.Open id uuid → ⊥) → is_control 0 f ≡ false
       by-frame p (start k s) h = rw k
       by-frame p (acknowledgement k) h = rw k
       by-frame p (continuation k s) h = rw k
-      by-frame p (opens k s) h = absurd (miss (0 ∷ 1 ∷ 3 ∷ 4 ∷ 5 ∷ []) 2 tt h)
+      by-frame p (opens k s) h = absurd (h _ _ refl)
       by-frame p (acks k s) h = rw (k, s)
       by-frame p (closes k s) h = rw (k, s)
 
-      of : (p : Parsed) → Reads f p → OneOf (0 ∷ 1 ∷ 3 ∷ 4 ∷ 5 ∷ []) (tag_of the_type p) → is_control 0 f ≡ false
+      of : (p : Parsed) → Reads f p → ((id uuid : ℕ) → p ≡ P.Open id uuid → ⊥) → is_control 0 f ≡ false
       of p (no-frame m) h = absurd (false≢true (sym fits ∙ m))
       of p (unknown m n) h =
           let u = both_hold {a = is_kind 3 f} {b = leb 3 (high_bits f)} n in

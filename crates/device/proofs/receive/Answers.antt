@@ -24,8 +24,8 @@ returns-in_default c =
     let a = c.args in
     let st = c.receive in
     let good = sym c.is_good_link.ensures ∙ c.if-is_good_link.true in
-    let other = not-open a.frame.now (rw (← c.parse-parsed.ensures) c.in_default.in_default-own.keys2) in
-    let long : length st.new.1.1.0 ≡ 1469 = omega (arith, st.auto.1.1.0, c.if-area-ne-AREA_LENGTH.false) in
+    let other = not-open a.frame.now (rw (← c.parse-parsed.ensures) c.in_default.not-Open) in
+    let long : length st.new.part ≡ 1469 = omega (arith, st.auto.part, c.if-area-ne-AREA_LENGTH.false) in
     let size = ap length (sym st.ensures.1) ∙ long in
     let e = heard-frame a.own.now a.link a.area.now a.frame.now c.if-own-ne-UUID_LENGTH.false c.if-area-ne-AREA_LENGTH.false good other size in
     (rw e st.ensures.0, rw e st.ensures.1)

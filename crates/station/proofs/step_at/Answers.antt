@@ -14,5 +14,5 @@ returns c =
     let b : ℕ = 1469 * a.place in
     let e = part-as a.link a.area.now a.frame.now a.place (b + 1469 - b) (add-sub_cancel_left b 1469) in (
       rw (← e) st.ensures.0,
-      back a.area.now b (b + 1469 - b) st.new.1.1.0 (omega (arith, st.auto.1.1.0)) ∙ rw (← e, st.ensures.1),
+      back a.area.now b (b + 1469 - b) st.new.part (omega (arith, st.auto.part)) ∙ rw (← e, st.ensures.1),
     )
