@@ -1,5 +1,6 @@
 // One line of the line program: digits in, frames as text out, the next number back.
 #![tactic(auto)]
+
 ghost use Rattle.std.specs.Prelude.{true, ◌≡◌, ◌+◌, ◌≤◌, length};
 ghost use Rattle.octets.specs.Parts.{write};
 ghost use Rattle.octets.specs.Writing.{written, output_after};

@@ -1,5 +1,6 @@
 // Hexadecimal digits to octets and back, and lines of them.
 #![tactic(auto)]
+
 ghost use Rattle.std.specs.Prelude.{◌≡◌, true, ◌+◌, ◌*◌, ◌/◌, ◌%◌, ◌≤◌, ◌<◌, length};
 ghost use Rattle.octets.specs.Parts.{write, within};
 ghost use Rattle.octets.specs.Writing.{written, output_after};

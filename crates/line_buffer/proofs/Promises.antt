@@ -7,12 +7,11 @@ use lib.Dec.{leb}
 use lib.ListN.{length, take}
 use lib.Seq.{length-take-le, take_all, take-append-add, take-append_seam}
 use borrow.Author.Tests.{leb-true, leb-false}
-use Rattle.octets.specs.Parts.{write}
 use Rattle.octets.specs.Cut.{joined}
 use Rattle.octets.proofs.Tests.{cases}
 use Rattle.octets.proofs.Parts.{write-length, write-front, copied-part}
 use Rattle.line_buffer.specs.Buffer.{fits, held_after, held_line}
-use Rattle.line_buffer.specs.Promises.{HoldsFront, held_all}
+use Rattle.line_buffer.specs.Promises.{HoldsFront}
 use Rattle.line_buffer.proofs.Laws.{hold-full, hold-some}
 
 -- ---- fronts

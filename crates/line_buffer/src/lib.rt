@@ -1,5 +1,6 @@
 // A line that comes in pieces, held in a lent buffer as far as it has room.
 #![tactic(auto)]
+
 ghost use Rattle.std.specs.Prelude.{◌≡◌, ◌≤◌, length};
 ghost use Rattle.line_buffer.specs.Buffer.{held_after, held_line};
 

@@ -1,5 +1,6 @@
 // A line of text: fields with a comma between them and a newline at the end, written at the start of a lent output.
 #![tactic(auto)]
+
 ghost use Rattle.std.specs.Prelude.{true, cond, [], ◌∷◌, ◌++◌, map, ◌≡◌, ◌+◌, ◌*◌, ◌-◌, ◌≤◌, leb, length, drop};
 ghost use Rattle.octets.specs.Numbers.{octets32};
 ghost use Rattle.octets.specs.Parts.{part, write};

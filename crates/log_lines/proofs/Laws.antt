@@ -30,8 +30,8 @@ module _ (line : List ℕ) (begins : begins_opening line ≡ true) where
   digits_long : length (drop 2 line) ≡ 8
   digits_long = omega (arith, length-drop 2 line, begun-so)
 
-  pub all_digits : take 8 (drop 2 line) ≡ drop 2 line
-  all_digits = take_all 8 (drop 2 line) (omega (arith, digits_long))
+  pub all_eight : take 8 (drop 2 line) ≡ drop 2 line
+  all_eight = take_all 8 (drop 2 line) (omega (arith, digits_long))
 
   abbrev id_room : List ℕ
   id_room = replicate 4 0

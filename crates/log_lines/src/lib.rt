@@ -1,5 +1,6 @@
 // The lines of a tray's log: opening lines read, and lines of each kind written.
 #![tactic(auto)]
+
 mod openings;
 mod writing;
 

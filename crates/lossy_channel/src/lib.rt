@@ -1,6 +1,7 @@
 // A channel that loses and repeats frames as a seed says: the same seed, the same fates. Its numbers are those of the generator that Park and Miller
 // published in 1988, with their later multiplier; C++ has it as minstd_rand.
 #![tactic(auto)]
+
 ghost use Rattle.std.specs.Prelude.{◌≡◌};
 ghost use Rattle.lossy_channel.specs.Channels.{new_channel, drawn, fate_of, carried};
 

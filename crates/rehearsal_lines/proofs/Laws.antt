@@ -9,7 +9,7 @@ use lib.Dec.{leb, eqb}
 use lib.ListN.{length, take, get_or, length-take, length-drop}
 use lib.Seq.{get_or-take}
 use borrow.Author.Tests.{le-leb, lt-leb, eq-eqb, leb-true, leb-false, eqb-true}
-use Rattle.octets.specs.Parts.{same, same_part}
+use Rattle.octets.specs.Parts.{same_part}
 use Rattle.octets.proofs.Parts.{same-exactly, same-part-fits}
 use Rattle.octets.proofs.Tests.{cases, both_hold, length-out}
 use Rattle.hexadecimal.specs.Hex.{is_hexadecimal, decoded_of, decoded_output}

@@ -8,7 +8,6 @@ use Rattle.transactions.specs.declared.Socket.{Socket}
 use Rattle.hexadecimal.specs.Hex.{value_of}
 use Rattle.line_fields.specs.Lines.{ascii, decimal_of}
 use Rattle.log_lines.specs.Lines.{begins_opening}
-use Rattle.log_lines.specs.Lines.{is_passed}
 use Rattle.rehearsal_lines.specs.Lines.{line_of, room_after, refused_line, module_of, settings_of, rates_of, is_digit}
 use Rattle.rehearsal_lines.specs.Promises.{SaysNothing, SaysChannel, SaysModule, Kinds, KindsOfLines, RefusedLineIsComment, Examples}
 use Rattle.rehearsal_lines.specs.declared.Line.TheVariants.{Module, Channel, Passed, Other}

@@ -1,5 +1,5 @@
 -- The lines of a rehearsal. Quotations are of `docs/REHEARSAL.md`.
-use Rattle.std.specs.Prelude.{ℕ, ◌+◌, ◌*◌, ◌-◌, ◌/◌, Bool, true, ◌&&◌, ◌||◌, cond, List, [], ◌∷◌, ◌++◌, leb, eqb, length, get_or, take, drop}
+use Rattle.std.specs.Prelude.{ℕ, ◌+◌, ◌*◌, ◌-◌, ◌/◌, Bool, true, ◌&&◌, cond, List, [], ◌∷◌, ◌++◌, leb, eqb, length, get_or, take, drop}
 use Rattle.octets.specs.Lengths.{is_length}
 use Rattle.octets.specs.Parts.{same, write}
 use Rattle.hexadecimal.specs.Hex.{is_hexadecimal, octets_of}

@@ -1,5 +1,6 @@
 // The lines of a rehearsal: what one says, and what is written where it is refused.
 #![tactic(auto)]
+
 mod decimals;
 mod settings;
 mod writing;

@@ -1,6 +1,7 @@
 // The text of the replay program's language (docs/REPLAY.md): the arguments of a line, the line of an answer, and the hash of octets.
 // All numbers have an even count of digits, so arguments and answers are octets, written in hexadecimal.
 #![tactic(auto)]
+
 ghost use Rattle.std.specs.Prelude.{◌≡◌, true, [], ◌∷◌, ◌+◌, ◌/◌, ◌%◌, ◌≤◌, length, take};
 ghost use Rattle.octets.specs.Writing.{written, output_after};
 ghost use Rattle.hexadecimal.specs.Hex.{digit_line};

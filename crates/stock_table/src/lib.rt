@@ -1,5 +1,6 @@
 // The stock table: a header and rows of the same fifteen columns, each a line at the start of a lent output.
 #![tactic(auto)]
+
 mod rows;
 mod writing;
 

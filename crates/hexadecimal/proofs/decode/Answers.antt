@@ -1,6 +1,4 @@
 -- The definition's tests in the order of the code; `digits` and `no-digits` say what `all_digits` found.
-use borrow.Author.Rules.{rules}
-use borrow.Author.Tests.{not-true, not-false}
 use mathlib.Core.Bool.{true, false}
 use mathlib.Core.Path.{◌≡◌, sym, ◌∙◌}
 use native.Mathlib.Omega.{arith}

@@ -1,5 +1,4 @@
 -- The definition's test has the value that the branch showed.
-use borrow.Author.Rules.{rules}
 use Rattle.hexadecimal.specs.Hex.{digit_of}
 use Rattle.octets.proofs.Tests.{tests}
 use Rattle.hexadecimal.proofs.digit.Goals as goal

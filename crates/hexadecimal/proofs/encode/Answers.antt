@@ -1,6 +1,5 @@
 -- The definition's tests have the values that the branches showed; halving the room loses nothing, by `omega`.
 use Prim.Native.Nat.{◌≤◌, ◌<◌, ◌-◌, ◌*◌}
-use borrow.Author.Rules.{rules}
 use lib.ListN.{length}
 use native.Mathlib.Omega.{arith}
 use Rattle.hexadecimal.specs.Hex.{encoded_output}

@@ -1,12 +1,11 @@
 -- Each test of the definition has the value that the branches showed; `passed-1` and `passed-3` say it of a range that was left.
-use borrow.Author.Rules.{rules}
 use lib.Dec.{leb}
 use mathlib.Core.Bool.{false, ◌&&◌}
-use mathlib.Core.Logic.{⊎_elim}
 use mathlib.Core.Path.{◌≡◌}
 use Rattle.hexadecimal.specs.Hex.{value_of}
 use Rattle.octets.proofs.Tests.{tests}
 use Rattle.hexadecimal.proofs.value.Goals as goal
+use Rattle.hexadecimal.proofs.value.Goals.{then-character-ge48+else-character-le57, else-character-ge48, then-character-ge65+else-character-le70, else-character-ge65}
 
 pub returns-then-character-le57 : goal.returns-then-character-le57
 unfolding value_of
@@ -15,26 +14,26 @@ returns-then-character-le57 c = search tests
 pub returns-then-character-le70 : goal.returns-then-character-le70
 unfolding value_of
 returns-then-character-le70 c =
-    let passed-1 : (leb 48 c.args.character && leb c.args.character 57) ≡ false = ⊎_elim (λ w. search tests) (λ w. search tests) c.if-character-ge48.branch in
+    let passed-1 : (leb 48 c.args.character && leb c.args.character 57) ≡ false = elim c.if-character-ge48.branch [ then-character-ge48+else-character-le57 w ↦ search tests | else-character-ge48 w ↦ search tests ] in
     search (tests, passed-1)
 
 pub returns-then-character-le102 : goal.returns-then-character-le102
 unfolding value_of
 returns-then-character-le102 c =
-    let passed-1 : (leb 48 c.args.character && leb c.args.character 57) ≡ false = ⊎_elim (λ w. search tests) (λ w. search tests) c.if-character-ge48.branch in
-    let passed-3 : (leb 65 c.args.character && leb c.args.character 70) ≡ false = ⊎_elim (λ w. search tests) (λ w. search tests) c.if-character-ge65.branch in
+    let passed-1 : (leb 48 c.args.character && leb c.args.character 57) ≡ false = elim c.if-character-ge48.branch [ then-character-ge48+else-character-le57 w ↦ search tests | else-character-ge48 w ↦ search tests ] in
+    let passed-3 : (leb 65 c.args.character && leb c.args.character 70) ≡ false = elim c.if-character-ge65.branch [ then-character-ge65+else-character-le70 w ↦ search tests | else-character-ge65 w ↦ search tests ] in
     search (tests, passed-1, passed-3)
 
 pub returns-else-character-le102 : goal.returns-else-character-le102
 unfolding value_of
 returns-else-character-le102 c =
-    let passed-1 : (leb 48 c.args.character && leb c.args.character 57) ≡ false = ⊎_elim (λ w. search tests) (λ w. search tests) c.if-character-ge48.branch in
-    let passed-3 : (leb 65 c.args.character && leb c.args.character 70) ≡ false = ⊎_elim (λ w. search tests) (λ w. search tests) c.if-character-ge65.branch in
+    let passed-1 : (leb 48 c.args.character && leb c.args.character 57) ≡ false = elim c.if-character-ge48.branch [ then-character-ge48+else-character-le57 w ↦ search tests | else-character-ge48 w ↦ search tests ] in
+    let passed-3 : (leb 65 c.args.character && leb c.args.character 70) ≡ false = elim c.if-character-ge65.branch [ then-character-ge65+else-character-le70 w ↦ search tests | else-character-ge65 w ↦ search tests ] in
     search (tests, passed-1, passed-3)
 
 pub returns-else-character-ge97 : goal.returns-else-character-ge97
 unfolding value_of
 returns-else-character-ge97 c =
-    let passed-1 : (leb 48 c.args.character && leb c.args.character 57) ≡ false = ⊎_elim (λ w. search tests) (λ w. search tests) c.if-character-ge48.branch in
-    let passed-3 : (leb 65 c.args.character && leb c.args.character 70) ≡ false = ⊎_elim (λ w. search tests) (λ w. search tests) c.if-character-ge65.branch in
+    let passed-1 : (leb 48 c.args.character && leb c.args.character 57) ≡ false = elim c.if-character-ge48.branch [ then-character-ge48+else-character-le57 w ↦ search tests | else-character-ge48 w ↦ search tests ] in
+    let passed-3 : (leb 65 c.args.character && leb c.args.character 70) ≡ false = elim c.if-character-ge65.branch [ then-character-ge65+else-character-le70 w ↦ search tests | else-character-ge65 w ↦ search tests ] in
     search (tests, passed-1, passed-3)

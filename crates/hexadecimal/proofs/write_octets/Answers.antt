@@ -1,9 +1,8 @@
 -- The loop's invariant: the output has the first j octets at its start (`paste`); `octets-turn` is its step.
-use Prim.Native.Nat.{◌≤◌, ◌-◌, ◌/◌, ◌+◌, ◌*◌}
-use borrow.Author.Rules.{rules}
-use lib.ListN.{length, length-set}
-use lib.Seq.{paste, paste-zero}
-use mathlib.Core.Path.{◌≡◌, refl, ◌∙◌}
+use Prim.Native.Nat.{◌+◌, ◌*◌}
+use lib.ListN.{length-set}
+use lib.Seq.{paste-zero}
+use mathlib.Core.Path.{refl, ◌∙◌}
 use native.Mathlib.Omega.{arith}
 use Rattle.hexadecimal.proofs.Laws.{length-octets, digit_at, octets-turn, written}
 use Rattle.hexadecimal.specs.Hex.{octets_of}

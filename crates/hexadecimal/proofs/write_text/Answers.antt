@@ -1,9 +1,8 @@
 -- The loop's invariant: the output has the first 2 j digits at their place (`paste`); `text-turn` is its step.
-use Prim.Native.Nat.{◌≤◌, ◌-◌, ◌*◌}
-use borrow.Author.Rules.{rules}
-use lib.ListN.{length, length-set}
-use lib.Seq.{paste, paste-zero}
-use mathlib.Core.Path.{◌≡◌, refl, ◌∙◌}
+use Prim.Native.Nat.{◌*◌}
+use lib.ListN.{length-set}
+use lib.Seq.{paste-zero}
+use mathlib.Core.Path.{refl, ◌∙◌}
 use native.Mathlib.Omega.{arith}
 use Rattle.hexadecimal.proofs.Laws.{length-text, text-turn, written}
 use Rattle.hexadecimal.specs.Hex.{text_of}
@@ -13,9 +12,6 @@ pub loop-j-init : goal.loop-j-init
 loop-j-init c =
     let a = c.args in
     (omega arith, refl, paste-zero a.output.now a.at (text_of a.octets.now))
-
-pub digit-requires : goal.digit-requires
-digit-requires c = omega (arith, c.shared_slice_known-in-loop-j-1.given c.loop-j.j)
 
 pub bounds-output-at-in-loop-j : goal.bounds-output-at-in-loop-j
 bounds-output-at-in-loop-j c = simp length-set (omega arith)

@@ -1,4 +1,3 @@
-use borrow.Author.Rules.{rules}
 use Rattle.octets.proofs.Tests.{tests}
 use Rattle.lossy_channel.proofs.fate_of.Goals as goal
 

@@ -1,0 +1,14 @@
+use Prim.Native.Nat.{◌*◌, ◌-◌, ◌≤◌}
+use mathlib.Core.List.{map}
+use lib.ListN.{length}
+use mathlib.Core.Path.{◌≡◌}
+use Rattle.line_fields.proofs.Laws.{Begun}
+use Rattle.line_fields.specs.Lines.{field_text}
+use Rattle.line_fields.proofs.write_fields.Given as goal
+
+abbrev pub invariant-loop-i : goal.invariant-loop-i
+invariant-loop-i l =
+    (length l.fields ≡ 15) × (l.i ≤ 15) × (length l.line ≡ 315) × (l.at ≤ 21 * l.i) × Begun (map field_text l.fields) l.initial.line l.line l.at l.i
+
+abbrev pub decreases-loop-i : goal.decreases-loop-i
+decreases-loop-i l = 15 - l.i

@@ -1,0 +1,29 @@
+use native.Mathlib.Omega.{arith}
+use mathlib.Core.Path.{sym, ◌∙◌}
+use Rattle.log_lines.proofs.Laws.{begun-so, all_eight, opening-digits, opening-wrong}
+use Rattle.log_lines.proofs.openings.read_begun.Goals as goal
+
+pub slice_bounds-decode-end : goal.slice_bounds-decode-end
+slice_bounds-decode-end c = omega (arith, begun-so c.args.line.now c.requires)
+
+pub returns-in_default : goal.returns-in_default
+returns-in_default c =
+    let s = c in
+    let same = rw (all_eight s.args.line.now s.requires) at c.decode.ensures.0 in
+    sym (opening-wrong s.args.line.now s.requires
+    (λ n e. c.in_default.not-Octets n (same ∙ e)))
+
+pub bounds-line-0 : goal.bounds-line-0
+bounds-line-0 c = omega (arith, begun-so c.args.line.now c.requires)
+
+pub overflow_sub-result : goal.overflow_sub-result
+overflow_sub-result c = omega (arith, begun-so c.args.line.now c.requires)
+
+pub returns : goal.returns
+returns c =
+    let s = c in
+    let k = c.decode in
+    let digits = all_eight s.args.line.now s.requires in
+    let told = rw digits at (sym k.ensures.0 ∙ c.in-Octets.is) in
+    let out = rw digits at k.ensures.1 in
+    rw (opening-digits s.args.line.now s.requires told, ← out, ← c.read32.ensures)

@@ -1,0 +1,48 @@
+-- The loop's invariant: what is left of the text decides as the whole text does, and the value is not too much yet.
+use native.Mathlib.Omega.{arith}
+use mathlib.Core.Bool.{true}
+use mathlib.Core.Path.{◌≡◌, sym, ◌∙◌}
+use lib.ListN.{get_or}
+use Rattle.rehearsal_lines.specs.Lines.{is_digit}
+use Rattle.rehearsal_lines.proofs.Numbers.{digit-so, no-digits, wrong-digit, next-too-much, right-digit, all_read}
+use Rattle.rehearsal_lines.proofs.decimals.read_decimal.Goals as goal
+use Rattle.rehearsal_lines.proofs.decimals.read_decimal.Goals.{Else-not-is_digit}
+
+digit : (c : Else-not-is_digit) → is_digit (get_or c.args.text.now c.loop-i.i 0) ≡ true
+digit c = sym c.is_digit.ensures ∙ c.if-not-is_digit.false
+
+pub returns-then-text-eq0 : goal.returns-then-text-eq0
+returns-then-text-eq0 c = no-digits c.args.text.now _ (omega arith)
+
+pub returns-then-not-is_digit : goal.returns-then-not-is_digit
+returns-then-not-is_digit c =
+    let t = c.args.text.now in
+    let l = c.loop-i in
+    wrong-digit t l.value l.i l.invariant.3 (omega arith) _ (sym c.is_digit.ensures ∙ c.if-not-is_digit.true)
+
+pub overflow_sub-next : goal.overflow_sub-next
+overflow_sub-next c = omega (arith, digit-so _ (digit (goal.at.overflow_sub-next c).Else-not-is_digit))
+
+pub overflow_cast-next-in-loop-i : goal.overflow_cast-next-in-loop-i
+overflow_cast-next-in-loop-i c = omega (arith, digit-so _ (digit (goal.at.overflow_cast-next-in-loop-i c).Else-not-is_digit))
+
+pub overflow_add-next : goal.overflow_add-next
+overflow_add-next c = omega (arith, digit-so _ (digit (goal.at.overflow_add-next c).Else-not-is_digit))
+
+pub returns-then-most-next : goal.returns-then-most-next
+returns-then-most-next c =
+    let a = c.args in
+    let l = c.loop-i in
+    next-too-much a.text.now l.value l.i l.invariant.3 (omega arith) a.most (omega arith)
+
+pub loop-i-preserved : goal.loop-i-preserved
+loop-i-preserved c =
+    let t = c.args.text.now in
+    let l = c.loop-i in
+    (omega arith, omega arith, omega arith, right-digit t l.value l.i l.invariant.3 (omega arith) (digit (goal.at.loop-i-preserved c).Else-not-is_digit))
+
+pub returns : goal.returns
+returns c =
+    let a = c.args in
+    let l = c.loop-i in
+    all_read a.text.now l.value l.i l.invariant.3 a.most (omega arith) (omega arith) (omega arith)

@@ -1,0 +1,52 @@
+use native.Mathlib.Omega.{arith}
+use mathlib.Core.List.{List}
+use mathlib.Core.Path.{◌≡◌, sym, ap, ◌∙◌}
+use Prim.Native.Nat.{ℕ}
+use lib.ListN.{drop}
+use lib.Seq.{length-take-le}
+use Rattle.hexadecimal.specs.Hex.{decoded_of, decoded_output}
+use Rattle.rehearsal_lines.proofs.Channel.{all-behind}
+use Rattle.rehearsal_lines.proofs.Laws.{too_short, too_long, no-space, no-opening, no-message, a-module}
+use Rattle.rehearsal_lines.proofs.read_module.Goals as goal
+use Rattle.rehearsal_lines.proofs.read_module.Goals.{After-decode}
+
+read : (c : After-decode) → let a = c.args in
+    (c.decode.result ≡ decoded_of (drop 11 a.line.now) a.room.now)
+    × (c.decode.new.output ≡ decoded_output (drop 11 a.line.now) a.room.now)
+read c =
+    let a = c.args in
+    let text = all-behind 11 a.line.now in (
+      c.decode.ensures.0 ∙ ap (λ (t : List ℕ). decoded_of t a.room.now) text,
+      c.decode.ensures.1 ∙ ap (λ (t : List ℕ). decoded_output t a.room.now) text,
+    )
+
+pub returns-then-line-lt13 : goal.returns-then-line-lt13
+returns-then-line-lt13 c = too_short c.args.line.now _ (omega arith)
+
+pub returns-then-line-gt-LONGEST : goal.returns-then-line-gt-LONGEST
+returns-then-line-gt-LONGEST c = too_long c.args.line.now _ (omega arith)
+
+pub returns-then-line-ne32 : goal.returns-then-line-ne32
+returns-then-line-ne32 c = no-space _ _ c.if-line-ne32.true
+
+pub slice_bounds-read_opening-end : goal.slice_bounds-read_opening-end
+slice_bounds-read_opening-end c = sym (length-take-le 10 c.args.line.now (omega arith))
+
+pub returns-in_default : goal.returns-in_default
+returns-in_default c = no-opening _ _ (sym c.read_opening.ensures ∙ c.in_default.is)
+
+pub returns-in_default-decode : goal.returns-in_default-decode
+returns-in_default-decode c =
+    let r = read (goal.at.returns-in_default-decode c).After-decode in
+    let none = no-message _ _ (λ n e. c.in_default-decode.not-Octets n (r.0 ∙ e)) in
+    (none.0, r.1 ∙ none.1)
+
+pub returns : goal.returns
+returns c =
+    let l = c.args.line.now in
+    let r = read (goal.at.returns c).After-decode in
+    let all =
+    a-module l _ (omega arith) (omega arith) (omega arith)
+    (sym c.read_opening.ensures ∙ c.in-Opens.is)
+    (sym r.0 ∙ c.in-Octets.is) in
+    (all.0, r.1 ∙ all.1)
