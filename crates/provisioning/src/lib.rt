@@ -1,5 +1,6 @@
 // Provisioning messages, read: the message by its name with its fields, or refusals 41 to 45.
 #![tactic(auto)]
+
 mod reading;
 
 pub use reading::read_message;

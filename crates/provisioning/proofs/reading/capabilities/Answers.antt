@@ -1,5 +1,4 @@
 -- Each field is what its own read says.
-use borrow.Author.Rules.{rules}
 use Rattle.provisioning.proofs.reading.capabilities.Goals as goal
 
 pub returns : goal.returns

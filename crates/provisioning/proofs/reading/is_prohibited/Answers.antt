@@ -1,12 +1,7 @@
 -- Message by message; the arm of all others says that it is none of those with a rule.
 use Prim.Native.Nat.{ℕ}
-use borrow.Author.Rules.{rules}
-use denote.Enum.Declared.{tag_of}
 use mathlib.Core.Bool.{false}
-use mathlib.Core.List.{List, [], ◌∷◌}
 use mathlib.Core.Path.{◌≡◌, refl}
-use types.Run.{OneOf, miss}
-use Rattle.provisioning.specs.contracts.Message.{the_type}
 use Rattle.provisioning.specs.Message.{is_prohibited}
 use Rattle.provisioning.specs.declared.Message.TheVariants as M
 use Rattle.provisioning.specs.declared.Message.{Message}

@@ -1,5 +1,4 @@
 -- By the one test.
-use borrow.Author.Rules.{rules}
 use Rattle.provisioning.proofs.reading.judge.Goals as goal
 
 pub returns-then-is_prohibited : goal.returns-then-is_prohibited

@@ -1,5 +1,4 @@
 -- Type by type.
-use borrow.Author.Rules.{rules}
 use Rattle.octets.proofs.Tests.{tests}
 use Rattle.provisioning.specs.Message.{message_of}
 use Rattle.provisioning.proofs.reading.message_of.Goals as goal

@@ -1,5 +1,4 @@
 -- Refusal by refusal, in the order of the definition.
-use borrow.Author.Rules.{rules}
 use borrow.Author.Tests.{eq-eqb, ne_eqb, lt-leb}
 use Rattle.octets.proofs.Tests.{tests}
 use Rattle.provisioning.specs.Message.{message_read}
