@@ -1,5 +1,6 @@
 // Beacons, and the key refresh phase and IV update state that they move: types, definitions and what is promised of them.
 #![tactic(auto)]
+
 ghost use Rattle.std.specs.Prelude.{◌≡◌};
 ghost use Rattle.beacon.specs.Beacons.{refusing};
 

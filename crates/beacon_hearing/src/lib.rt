@@ -1,5 +1,6 @@
 // A beacon that was heard. The key rule and the IV rule are kept apart: neither reads the other's state.
 #![tactic(auto)]
+
 ghost use Rattle.std.specs.Prelude.{◌≡◌, ◌+◌};
 ghost use Rattle.beacon.specs.Rules.{key_wrong, key_rule, out_of_window, recovery_step, iv_rule};
 ghost use Rattle.beacon.specs.Beacons.{unprovisioned, moved, secure, heard};

@@ -1,5 +1,6 @@
 // The entries of a proxy filter: the lookup on which every rule rests, and the test for entries that are not bad.
 #![tactic(auto)]
+
 ghost use Rattle.std.specs.Prelude.{◌≡◌, ◌&&◌, not, ◌≤◌, eqb, take, drop};
 ghost use Rattle.filter_entries.specs.Entries.{find_from, is_on, all_allowed, all_unused, are_good};
 

@@ -1,5 +1,6 @@
 // The messages of the proxy filter: what one asks for, and the status that answers it.
 #![tactic(auto)]
+
 ghost use Rattle.std.specs.Prelude.{◌≡◌, ◌<◌, length};
 ghost use Rattle.filter_messages.specs.Messages.{type_of, change_of, request_of, status_octets};
 

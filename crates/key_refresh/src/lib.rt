@@ -1,5 +1,6 @@
 // The local calls of a key refresh: it is started here, or its phase set here.
 #![tactic(auto)]
+
 ghost use Rattle.std.specs.Prelude.{◌≡◌};
 ghost use Rattle.beacon.specs.Beacons.{at_phase, started, set};
 

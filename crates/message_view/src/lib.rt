@@ -1,5 +1,6 @@
 // A view of a message: the lent octets and the place reached. It reads one field at a time, by `read_field`, which takes slice and place.
 #![tactic(auto)]
+
 ghost use Rattle.std.specs.Prelude.{◌≡◌};
 ghost use Rattle.message_view.specs.Reading.{size_of, value_at, field_at};
 

@@ -1,5 +1,6 @@
 // Proxy transfer: connected and disconnected, and the test for a transfer that is not bad.
 #![tactic(auto)]
+
 ghost use Rattle.std.specs.Prelude.{◌≡◌, true, false};
 ghost use Rattle.proxy.specs.Transfers.{empty, is_good, set_connected};
 

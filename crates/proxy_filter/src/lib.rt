@@ -1,5 +1,6 @@
 // The proxy filter: an accept list or a reject list of at most 16 addresses.
 #![tactic(auto)]
+
 ghost use Rattle.std.specs.Prelude.{◌≡◌, true, ◌++◌, ◌∷◌, [], suc, ◌<◌, take, drop};
 ghost use Rattle.filter_entries.specs.Entries.{unused, find};
 ghost use Rattle.filter_entries.specs.Changes.{appended, without, changed, changed_all};

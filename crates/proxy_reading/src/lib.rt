@@ -1,5 +1,6 @@
 // Proxy transfer, reading: pieces put together again in a lent buffer.
 #![tactic(auto)]
+
 ghost use Rattle.std.specs.Prelude.{◌≡◌, ◌≤◌, length};
 ghost use Rattle.proxy.specs.Transfers.{held_length, is_expected, is_like_first, refusing, disconnecting, complete, added, joining, offered, piece_read, is_refused, buffer_after};
 

@@ -1,5 +1,6 @@
 // Proxy transfer, writing: a message cut into pieces of the proxy size.
 #![tactic(auto)]
+
 ghost use Rattle.std.specs.Prelude.{◌≡◌, true, ◌-◌, ◌≤◌, min, length};
 ghost use Rattle.octets.specs.Writing.{written, output_after};
 ghost use Rattle.proxy.specs.Pieces.{is_cut, last_piece, first_octet, piece_octets, pieces_counted, is_piece, CutAsked, PieceAsked};

@@ -1,6 +1,5 @@
 use Rattle.octets.proofs.Tests.{tests}
 use Rattle.filter_messages.specs.Messages.{request_of}
-use borrow.Author.Rules.{rules}
 use Rattle.filter_messages.proofs.request_of.Goals as goal
 
 pub returns-then-message-eq0 : goal.returns-then-message-eq0

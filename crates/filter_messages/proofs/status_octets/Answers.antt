@@ -1,6 +1,5 @@
 -- The count is below 256, so that its first octet is 0.
 use Prim.Native.Nat.{◌/◌, ◌%◌}
-use borrow.Author.Rules.{rules}
 use mathlib.Core.Path.{◌≡◌}
 use native.Mathlib.Omega.{arith}
 use Rattle.filter_messages.proofs.status_octets.Goals as goal

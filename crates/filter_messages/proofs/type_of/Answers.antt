@@ -1,6 +1,5 @@
 use Rattle.octets.proofs.Tests.{tests}
 use Rattle.filter_messages.specs.Messages.{type_of}
-use borrow.Author.Rules.{rules}
 use Rattle.filter_messages.proofs.type_of.Goals as goal
 
 pub returns-then-kind-eq0 : goal.returns-then-kind-eq0

@@ -1,4 +1,3 @@
-use borrow.Author.Rules.{rules}
 use borrow.Author.Tests.{le-leb, lt-leb}
 use Rattle.proxy.specs.Transfers.{is_good}
 use Rattle.proxy_connection.proofs.is_good.Goals as goal

@@ -1,5 +1,4 @@
 use Rattle.proxy.specs.Transfers.{set_connected}
-use borrow.Author.Rules.{rules}
 use Rattle.proxy_connection.proofs.set_connected.Goals as goal
 
 pub returns-then-is_good : goal.returns-then-is_good

@@ -4,7 +4,6 @@ use native.Mathlib.Numerals.{add-one}
 use Rattle.proxy.specs.Pieces.{pieces_counted, CutAsked}
 use Rattle.proxy.proofs.Laws.{cut-asked}
 use Rattle.proxy_writing.proofs.Laws.{last-small}
-use borrow.Author.Rules.{rules}
 use Rattle.proxy_writing.proofs.count_pieces.Goals as goal
 
 pub last_piece-requires : goal.last_piece-requires

@@ -2,7 +2,6 @@ use native.Mathlib.Nat.{zero-add}
 use borrow.Author.Tests.{lt-ltb}
 use Rattle.octets.proofs.Tests.{tests}
 use Rattle.proxy.specs.Pieces.{top_bits}
-use borrow.Author.Rules.{rules}
 use Rattle.proxy_writing.proofs.first_octet.Goals as goal
 
 pub returns-then-length-size : goal.returns-then-length-size

@@ -1,4 +1,3 @@
-use borrow.Author.Rules.{rules}
 use borrow.Author.Tests.{le-leb}
 use Rattle.octets.proofs.Tests.{tests}
 use Rattle.proxy_writing.proofs.is_cut.Goals as goal

@@ -1,6 +1,5 @@
 use mathlib.Core.Path.{sym}
 use Rattle.proxy_writing.proofs.Laws.{last-divided}
-use borrow.Author.Rules.{rules}
 use Rattle.proxy_writing.proofs.last_piece.Goals as goal
 
 pub returns : goal.returns

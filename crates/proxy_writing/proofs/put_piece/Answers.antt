@@ -1,5 +1,5 @@
 use Prim.Native.Nat.{◌-◌, ◌*◌, ◌≤◌, min}
-use lib.ListN.{length, set, length-set}
+use lib.ListN.{length, set}
 use mathlib.Core.Path.{◌≡◌, sym, ap, ◌∙◌}
 use mathlib.Core.Bool.{true}
 use Rattle.octets.specs.Parts.{copied}
@@ -9,7 +9,6 @@ use Rattle.octets.specs.declared.Written.TheVariants.{Count}
 use native.Mathlib.Omega.{arith}
 use Rattle.octets.proofs.Writing.{written-fits, output-fits, output-short}
 use Rattle.proxy_writing.proofs.Laws.{piece-within, piece-long, piece-part, octet-copied}
-use borrow.Author.Rules.{rules}
 use Rattle.proxy_writing.proofs.put_piece.Goals as goal
 
 pub overflow_mul-from : goal.overflow_mul-from
@@ -26,9 +25,6 @@ pub returns-then-output-count : goal.returns-then-output-count
 returns-then-output-count c =
     let a = c.args in
     output-short _ _ (omega (arith, c.piece_length-count.ensures, piece-long a.size a.kind a.message.now a.index))
-
-pub shape_of-output : goal.shape_of-output
-shape_of-output c = c.copy.auto.0 ∙ simp length-set
 
 pub returns : goal.returns
 returns c =

@@ -3,7 +3,6 @@ use borrow.Author.Tests.{le-leb, lt-leb}
 use mathlib.Core.Path.{sym, ◌∙◌}
 use native.Mathlib.Omega.{arith}
 use Rattle.proxy.proofs.Laws.{cut-asked}
-use borrow.Author.Rules.{rules}
 use Rattle.proxy_writing.proofs.write_piece.Goals as goal
 
 pub returns-then-kind-gt3 : goal.returns-then-kind-gt3

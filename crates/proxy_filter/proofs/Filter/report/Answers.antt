@@ -1,0 +1,5 @@
+use mathlib.Core.Path.{refl}
+use Rattle.proxy_filter.proofs.Filter.report.Goals as goal
+
+pub returns : goal.returns
+returns c = refl
