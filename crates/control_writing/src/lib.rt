@@ -1,5 +1,6 @@
 // The writers of control frames: Open, Ack and Close. Their number is written 0.
 #![tactic(auto)]
+
 ghost use Rattle.std.specs.Prelude.{◌≡◌, true};
 ghost use Rattle.octets.specs.Writing.{written, output_after};
 ghost use Rattle.pb_adv.specs.Frame.{open_octets, ack_octets, close_octets, is_uuid};

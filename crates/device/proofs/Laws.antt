@@ -4,8 +4,6 @@ use native.Mathlib.Omega.{arith}
 use mathlib.Core.Bool.{Bool, true, false, ◌&&◌, not, false≢true}
 use mathlib.Core.List.{List, [], ◌∷◌}
 use mathlib.Core.Path.{◌≡◌, refl, sym, ap, ◌∙◌}
-use types.Run.{OneOf, miss}
-use denote.Enum.Declared.{tag_of}
 use lib.Dec.{eqb, leb}
 use lib.ListN.{length}
 use lib.Seq.{take_all}
@@ -18,7 +16,6 @@ use Rattle.pb_adv.specs.Frame.{link_id, kind_of, high_bits, parsed}
 use Rattle.pb_adv.specs.Tables.{is_kind, is_control, malformed, body_fits}
 use Rattle.pb_adv.specs.declared.Parsed.{Parsed}
 use Rattle.pb_adv.specs.declared.Parsed.TheVariants as P
-use Rattle.pb_adv.specs.contracts.Parsed.{the_type}
 use Rattle.pb_adv.proofs.Tables.{IsFrame, start, acknowledgement, continuation, opens, acks, closes, Reads, no-frame, unknown, frame, reads}
 use Rattle.links.specs.Links.{device, has_id, in_use}
 use Rattle.links.specs.Good.{good, good_link}

@@ -1,6 +1,7 @@
 // The device's end: one session, whose link an Open with the device's own UUID opens. The record goes in and comes back by value; the UUID and the area
 // are lent with each call. The host writes the Ack after "opened" and after "already".
 #![tactic(auto)]
+
 ghost use Rattle.std.specs.Prelude.{◌+◌, ◌≤◌, [], ◌∷◌, ◌≡◌, length};
 ghost use Rattle.links.specs.Links.{blank};
 ghost use Rattle.links.specs.Station.{open_step, local_send, local_close};

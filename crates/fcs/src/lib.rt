@@ -1,5 +1,6 @@
 // The check octet of 3GPP TS 27.010 (the FCS of a transaction), bit by bit.
 #![tactic(auto)]
+
 ghost use Rattle.std.specs.Prelude.{◌≡◌};
 ghost use Rattle.fcs.specs.Fcs.{bit_step, octet_step, remainder, check_octet};
 

@@ -1,5 +1,6 @@
 // A frame of any kind, put together from its parts.
 #![tactic(auto)]
+
 ghost use Rattle.std.specs.Prelude.{◌≡◌, true, [], ◌++◌, ◌≤◌, length};
 ghost use Rattle.octets.specs.Parts.{write};
 ghost use Rattle.octets.specs.Writing.{written, output_after};

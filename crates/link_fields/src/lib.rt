@@ -1,5 +1,6 @@
 // Tests of single fields of a link record: marks, numbers, states.
 #![tactic(auto)]
+
 ghost use Rattle.std.specs.Prelude.{◌≡◌, cond, leb};
 ghost use Rattle.links.specs.Marks.{is_marked, with_mark, all_marked, none_above};
 ghost use Rattle.links.specs.Links.{sends, first_number, is_last, in_use};

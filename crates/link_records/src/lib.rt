@@ -1,5 +1,6 @@
 // Link records made anew, and the eight of a station: one of them stored, and what a call hands back.
 #![tactic(auto)]
+
 ghost use Rattle.std.specs.Prelude.{◌≡◌, get_or, replicate};
 ghost use Rattle.links.specs.Links.{blank, blank_with, with_sending};
 ghost use Rattle.links.specs.Station.{no_link};

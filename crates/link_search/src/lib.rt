@@ -1,5 +1,6 @@
 // The search for the record of a Link ID.
 #![tactic(auto)]
+
 ghost use Rattle.std.specs.Prelude.{◌≡◌};
 ghost use Rattle.links.specs.Links.{has_id, find};
 

@@ -1,5 +1,6 @@
 // The test for a state that is not bad.
 #![tactic(auto)]
+
 ghost use Rattle.std.specs.Prelude.{◌≡◌, ◌&&◌, not, eqb, drop};
 ghost use Rattle.transactions.specs.Segments.{seg_n};
 ghost use Rattle.links.specs.Marks.{is_marked, all_marked, none_above};

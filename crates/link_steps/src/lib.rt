@@ -1,6 +1,7 @@
 // The steps of one link, at either end: a frame that is received for it, a local Send and a local Close. They take any record, and are what the calls of
 // station, local_calls and device do once they have judged arguments and state; a host makes those calls.
 #![tactic(auto)]
+
 mod other_frames;
 mod segments;
 

@@ -12,7 +12,6 @@ use lib.ListN.{length, get_or, take}
 use lib.Seq.{append_snoc}
 use borrow.Author.Tests.{eqb-true, eqb-false, eq-eqb, ne_eqb}
 use Rattle.octets.specs.Numbers.{Octets}
-use Rattle.octets.specs.Parts.{part}
 use Rattle.octets.proofs.Tests.{cases, both}
 use Rattle.transactions.specs.Numbers.{is_socket, socket_place}
 use Rattle.transactions.specs.Segments.{seg_n}

@@ -33,7 +33,6 @@ use Rattle.links.specs.Station.{Station, no_link, get_link, open_step, is_right,
 use Rattle.links.specs.Interleaving.{All, BeforeEach}
 use Rattle.links.specs.Operations.{Operation, receiving, opening, sending, closing, operate, after_all, Offered}
 use Rattle.links.specs.Promises.{addressed}
-use Rattle.links.specs.Demand3.{Message}
 use Rattle.links.specs.Demand2.{OpenUnder, Receiving, CameByCut, FromCut, Delivery, Only}
 use Rattle.links.specs.declared.LinkState.TheVariants as S
 use Rattle.links.specs.declared.HalfMessage.{HalfMessage}

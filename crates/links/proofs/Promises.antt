@@ -10,14 +10,12 @@ use lib.ListN.{length, get_or, set, length-set}
 use lib.Seq.{get_or-set_other}
 use borrow.Author.Tests.{eqb-true, eqb-false, ne_eqb, leb-true}
 use Rattle.octets.specs.Numbers.{Octets}
-use Rattle.octets.specs.Parts.{part}
 use Rattle.octets.specs.Told.{Told, refused, answered}
 use Rattle.octets.proofs.Tables.{other-told}
 use Rattle.octets.proofs.Tests.{cases, both_hold}
 use Rattle.transactions.specs.Numbers.{is_socket, socket_place}
 use Rattle.pb_adv.specs.Frame.{parsed}
 use Rattle.transactions.specs.declared.Socket.{Socket}
-use Rattle.pb_adv.specs.declared.Segment.{Segment}
 use Rattle.pb_adv.specs.declared.Parsed.{Parsed}
 use Rattle.pb_adv.specs.declared.Parsed.TheVariants as P
 use Rattle.links.specs.Links.{End, provisioner, device, side_of, blank, blank_with, find, refusal_number, told}

@@ -1,5 +1,5 @@
 -- Document 01's receiving table, with request [1]'s rows of it, and the tables of the local calls (`specs/Tables.antt`).
-use Prim.Native.Nat.{ℕ, ◌*◌, ◌-◌, ◌<◌}
+use Prim.Native.Nat.{ℕ, ◌*◌, ◌<◌}
 use native.Mathlib.Omega.{arith}
 use mathlib.Core.Bool.{Bool, true, false, ◌&&◌, ◌||◌, cond, not, false≢true}
 use mathlib.Core.List.{List, [], ◌∷◌}

@@ -7,7 +7,6 @@ use Rattle.octets.specs.Told.{refused, answered}
 use Rattle.pb_adv.specs.Frame.{parsed}
 use Rattle.transactions.specs.declared.TransactionNumber.{TransactionNumber}
 use Rattle.transactions.specs.declared.Socket.{Socket}
-use Rattle.pb_adv.specs.declared.Segment.{Segment}
 use Rattle.pb_adv.specs.declared.Parsed.{Parsed}
 use Rattle.pb_adv.specs.declared.Parsed.TheVariants as P
 use Rattle.links.specs.Links.{peer, End, provisioner, device, side_of, find, told}

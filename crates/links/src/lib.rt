@@ -1,6 +1,7 @@
 // The link records of an end and the answers of its calls. The rules over them are specs/, the promises proofs/; the code that runs
 // them is in the crates link_steps, local_calls, station and device.
 #![tactic(auto)]
+
 use transactions::TransactionNumber;
 
 // The end of the links that a record is of.

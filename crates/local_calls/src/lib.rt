@@ -1,5 +1,6 @@
 // The station's local calls: open, send and close. Each takes the eight link records by value and hands them back.
 #![tactic(auto)]
+
 ghost use Rattle.std.specs.Prelude.{◌≡◌};
 ghost use Rattle.links.specs.Station.{open_at, local_open, at_record, link_at, send_step, local_send, close_step, local_close};
 ghost use Rattle.links.specs.declared.Side.TheVariants.{Provisioner};

@@ -1,5 +1,6 @@
 // Parts of lists of octets, copied and compared.
 #![tactic(auto)]
+
 ghost use Rattle.std.specs.Prelude.{true, ◌&&◌, ◌≡◌, ◌+◌, ◌-◌, ◌≤◌, leb, length};
 ghost use Rattle.octets.specs.Parts.{write, copy_fits, copied, same, same_part};
 

@@ -1,5 +1,6 @@
 // Lists of octets: big-endian numbers, how long a message may be, and the answer of a writer.
 #![tactic(auto)]
+
 ghost use Rattle.std.specs.Prelude.{◌≡◌, ◌<◌, get_or};
 ghost use Rattle.octets.specs.Numbers.{big16, big32, octets32};
 ghost use Rattle.octets.specs.Lengths.{is_length};

@@ -1,5 +1,6 @@
 // PB-ADV frames: what octets say as a frame.
 #![tactic(auto)]
+
 mod parsing;
 
 pub use parsing::parse;

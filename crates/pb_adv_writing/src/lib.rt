@@ -1,5 +1,6 @@
 // The writers of a transaction's frames: segments and acknowledgements; the cut of a message into frames.
 #![tactic(auto)]
+
 ghost use Rattle.std.specs.Prelude.{◌≡◌, true, ◌≤◌, length};
 ghost use Rattle.octets.specs.Writing.{written, output_after};
 ghost use Rattle.pb_adv.specs.Frame.{acknowledgement_octets};

@@ -1,5 +1,6 @@
 // The station's receiving call: eight sockets, the provisioner's end. It takes the eight link records by value and hands them back.
 #![tactic(auto)]
+
 ghost use Rattle.std.specs.Prelude.{◌*◌, ◌<◌, ◌≡◌, length};
 ghost use Rattle.octets.specs.Parts.{write};
 ghost use Rattle.link_steps.specs.Calls.{stepped_of};

@@ -1,5 +1,6 @@
 // Transactions: their numbers, and where the segments of a message stand; and the sockets, a count of their own.
 #![tactic(auto)]
+
 mod numbers;
 mod segments;
 

@@ -1,4 +1,3 @@
-use borrow.Author.Rules.{rules}
 use Rattle.pb_adv.specs.Frame.{ack_octets}
 use Rattle.control_writing.proofs.write_ack.Goals as goal
 

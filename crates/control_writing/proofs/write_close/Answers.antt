@@ -1,4 +1,3 @@
-use borrow.Author.Rules.{rules}
 use Rattle.pb_adv.specs.Frame.{close_octets}
 use Rattle.control_writing.proofs.write_close.Goals as goal
 

@@ -1,4 +1,3 @@
-use borrow.Author.Rules.{rules}
 use borrow.Author.Tests.{eq-eqb}
 use mathlib.Core.List.{append-nil}
 use Rattle.octets.proofs.Tests.{tests}

@@ -1,5 +1,4 @@
 -- 14, then the record's step.
-use borrow.Author.Rules.{rules}
 use mathlib.Core.Path.{◌∙◌, sym}
 use Rattle.links.specs.Station.{close_step}
 use Rattle.links.specs.declared.Side.TheVariants.{Device}

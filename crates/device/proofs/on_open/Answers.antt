@@ -1,5 +1,4 @@
 -- The tests of `open_step`, in their order; the UUID is compared in its place (`own-compared`).
-use borrow.Author.Rules.{rules}
 use borrow.Author.Tests.{eq-eqb, ne_eqb}
 use mathlib.Core.Path.{◌∙◌, sym}
 use Rattle.links.specs.Station.{open_step}

@@ -1,5 +1,4 @@
 -- 11, 14, then an Open (`heard-open`) or another frame (`heard-frame`).
-use borrow.Author.Rules.{rules}
 use mathlib.Core.Path.{◌∙◌, ◌≡◌, ap, sym}
 use lib.ListN.{length}
 use native.Mathlib.Omega.{arith}

@@ -1,4 +1,3 @@
-use borrow.Author.Rules.{rules}
 use Rattle.fcs.specs.Fcs.{check_octet}
 use Rattle.fcs.proofs.check_octet.Goals as goal
 

@@ -1,8 +1,6 @@
-use borrow.Author.Rules.{rules}
-use Prim.Native.Nat.{ℕ, suc, ◌+◌, ◌-◌, ◌≤◌}
-use mathlib.Core.Path.{◌≡◌, refl, sym, ap, ◌∙◌}
-use native.Mathlib.Omega.{arith}
-use Rattle.fcs.specs.Fcs.{bit_step, bit_steps, octet_step}
+use Prim.Native.Nat.{◌-◌, ◌≤◌}
+use mathlib.Core.Path.{◌≡◌}
+use Rattle.fcs.specs.Fcs.{bit_steps, octet_step}
 use Rattle.fcs.proofs.octet_step.Given as goal
 
 abbrev pub invariant-loop-done : goal.invariant-loop-done

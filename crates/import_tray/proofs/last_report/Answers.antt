@@ -1,5 +1,4 @@
 use mathlib.Core.Path.{sym, ◌∙◌}
-use borrow.Author.Rules.{rules}
 use Rattle.import_tray.proofs.last_report.Goals as goal
 
 pub returns-in-Unopened : goal.returns-in-Unopened

@@ -1,6 +1,5 @@
 -- The n + 1 low bits are ones (`all-marked-ones`); bit 64 and on are not set (`not-all-marked`).
 use Prim.Native.Nat.{◌+◌, ◌%◌, ◌^◌}
-use borrow.Author.Rules.{rules}
 use lib.Bits.{and_mask}
 use lib.Pow.{pow_pos}
 use mathlib.Core.Path.{◌≡◌, sym}

@@ -1,5 +1,4 @@
 -- By the end.
-use borrow.Author.Rules.{rules}
 use Rattle.link_fields.proofs.is_sent_by.Goals as goal
 
 pub returns-in-Provisioner : goal.returns-in-Provisioner

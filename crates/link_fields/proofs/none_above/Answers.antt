@@ -1,6 +1,5 @@
 -- The shift by definition; nothing is left of a shift by 64 or more (`shifted-out`).
 use Prim.Native.Nat.{suc}
-use borrow.Author.Rules.{rules}
 use native.Mathlib.Numerals.{add-one}
 use native.Mathlib.Omega.{arith}
 use Rattle.link_fields.proofs.Bits.{shifted-out}

@@ -1,5 +1,4 @@
 -- A one shifted by at most 63 is a power of two (`one_shifted`).
-use borrow.Author.Rules.{rules}
 use borrow.Author.Tests.{le-leb, lt-leb}
 use native.Mathlib.Omega.{arith}
 use Rattle.link_fields.proofs.Bits.{one_shifted}

@@ -1,4 +1,3 @@
-use borrow.Author.Rules.{rules}
 use Rattle.link_records.proofs.blank_with.Goals as goal
 
 pub returns : goal.returns

@@ -1,8 +1,4 @@
 -- One turn of the loop takes one record off the list that is left: `finds`, `looks_on`, `nothing_left`.
-use Prim.Native.Nat.{◌-◌}
-use borrow.Author.Rules.{rules}
-use lib.ListN.{length, drop}
-use mathlib.Core.Path.{◌≡◌}
 use native.Mathlib.Omega.{arith}
 use Rattle.octets.proofs.Loops.{nothing_left}
 use Rattle.link_search.proofs.Laws.{finds, looks_on}

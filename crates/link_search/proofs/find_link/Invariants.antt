@@ -1,10 +1,6 @@
 use Prim.Native.Nat.{◌-◌}
-use borrow.Author.Rules.{rules}
 use lib.ListN.{length, drop}
 use mathlib.Core.Path.{◌≡◌}
-use native.Mathlib.Omega.{arith}
-use Rattle.octets.proofs.Loops.{nothing_left}
-use Rattle.link_search.proofs.Laws.{finds, looks_on}
 use Rattle.links.specs.Links.{find_from}
 use Rattle.link_search.proofs.find_link.Given as goal
 

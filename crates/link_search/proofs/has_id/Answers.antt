@@ -1,5 +1,4 @@
 -- By the two tests.
-use borrow.Author.Rules.{rules}
 use Rattle.link_search.proofs.has_id.Goals as goal
 
 pub returns-then-is_in_use : goal.returns-then-is_in_use

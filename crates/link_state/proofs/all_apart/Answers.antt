@@ -1,8 +1,5 @@
 -- One turn of the loop takes one record off the list that is left: `goes_on`, `stops`, `nothing_left`.
-use Prim.Native.Nat.{◌-◌}
-use borrow.Author.Rules.{rules}
-use lib.ListN.{length, drop}
-use mathlib.Core.Path.{◌≡◌, refl}
+use mathlib.Core.Path.{refl}
 use native.Mathlib.Omega.{arith}
 use Rattle.octets.proofs.Loops.{goes_on, stops, nothing_left}
 use Rattle.links.specs.Good.{apart, all, all_apart}

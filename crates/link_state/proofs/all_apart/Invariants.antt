@@ -1,11 +1,7 @@
 use Prim.Native.Nat.{◌-◌}
-use borrow.Author.Rules.{rules}
 use lib.ListN.{length, drop}
-use mathlib.Core.Path.{◌≡◌, refl}
-use native.Mathlib.Omega.{arith}
-use Rattle.octets.proofs.Loops.{goes_on, stops, nothing_left}
-use Rattle.links.specs.Good.{apart, all, all_apart}
-use Rattle.links.specs.Station.{no_link}
+use mathlib.Core.Path.{◌≡◌}
+use Rattle.links.specs.Good.{all_apart}
 use Rattle.link_state.proofs.all_apart.Given as goal
 
 abbrev pub invariant-loop-i : goal.invariant-loop-i

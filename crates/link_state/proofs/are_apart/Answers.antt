@@ -1,5 +1,4 @@
 -- Link IDs that differ are apart in any states (`other-ids`); else by the two states.
-use borrow.Author.Rules.{rules}
 use borrow.Author.Tests.{eq-eqb, ne_eqb}
 use mathlib.Core.Bool.{Bool, true, false, ◌&&◌, not}
 use mathlib.Core.Path.{◌≡◌, refl}

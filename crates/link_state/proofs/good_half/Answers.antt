@@ -1,5 +1,4 @@
 -- By what is half-received.
-use borrow.Author.Rules.{rules}
 use Rattle.link_state.proofs.good_half.Goals as goal
 
 pub returns-in-Message : goal.returns-in-Message

@@ -1,5 +1,4 @@
 -- By what was last delivered.
-use borrow.Author.Rules.{rules}
 use Rattle.link_state.proofs.good_last.Goals as goal
 
 pub returns-in-Number : goal.returns-in-Number

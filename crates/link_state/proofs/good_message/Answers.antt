@@ -1,5 +1,4 @@
 -- By the four tests, each of which is the definition's.
-use borrow.Author.Rules.{rules}
 use Rattle.links.specs.Good.{good_message}
 use Rattle.link_state.proofs.good_message.Goals as goal
 

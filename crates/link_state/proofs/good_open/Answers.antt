@@ -1,5 +1,4 @@
 -- By the three tests, each of which is the definition's.
-use borrow.Author.Rules.{rules}
 use Rattle.link_state.proofs.good_open.Goals as goal
 
 pub returns-then-good_last : goal.returns-then-good_last

@@ -1,5 +1,4 @@
 -- By the end.
-use borrow.Author.Rules.{rules}
 use Rattle.link_state.proofs.good_opening.Goals as goal
 
 pub returns-in-Provisioner : goal.returns-in-Provisioner

@@ -1,5 +1,4 @@
 -- By the four tests, each of which is the definition's.
-use borrow.Author.Rules.{rules}
 use Rattle.link_state.proofs.is_at_rest.Goals as goal
 
 pub returns-then-link : goal.returns-then-link

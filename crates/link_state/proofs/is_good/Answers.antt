@@ -1,5 +1,4 @@
 -- By the two tests.
-use borrow.Author.Rules.{rules}
 use Rattle.links.specs.Good.{good}
 use Rattle.link_state.proofs.is_good.Goals as goal
 

@@ -1,5 +1,4 @@
 -- By the state, and for a free record by its Link ID.
-use borrow.Author.Rules.{rules}
 use borrow.Author.Tests.{eq-eqb, ne_eqb}
 use Rattle.link_state.proofs.is_good_link.Goals as goal
 

@@ -1,5 +1,4 @@
 -- By the test of the Link ID.
-use borrow.Author.Rules.{rules}
 use Rattle.link_steps.proofs.at_id.Goals as goal
 
 pub returns-then-has_id : goal.returns-then-has_id

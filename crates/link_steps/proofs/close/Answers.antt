@@ -1,5 +1,4 @@
 -- The test of `close_step`.
-use borrow.Author.Rules.{rules}
 use Rattle.link_steps.proofs.close.Goals as goal
 
 pub returns-then-is_in_use : goal.returns-then-is_in_use

@@ -1,5 +1,4 @@
 -- By what is half-received.
-use borrow.Author.Rules.{rules}
 use Rattle.link_steps.proofs.is_in_range.Goals as goal
 
 pub returns-in-Message : goal.returns-in-Message

@@ -1,5 +1,4 @@
 -- 11, 14, then the frame (`received-frame`): a frame that is no segment leaves the part (`other-frame`), a segment stands in the frame (`segments-are-encodings`).
-use borrow.Author.Rules.{rules}
 use mathlib.Core.Path.{◌∙◌, sym}
 use native.Mathlib.Omega.{arith}
 use Rattle.pb_adv.proofs.Promises.{segments-are-encodings}

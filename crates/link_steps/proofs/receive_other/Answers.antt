@@ -1,5 +1,4 @@
 -- By the kind of the frame; a segment does not come here (`NoSegment`).
-use borrow.Author.Rules.{rules}
 use mathlib.Core.Path.{subst}
 use Rattle.link_steps.specs.Steps.{NoSegment}
 use Rattle.link_steps.proofs.receive_other.Goals as goal

@@ -1,5 +1,4 @@
 -- The tests of `send_step`, in their order.
-use borrow.Author.Rules.{rules}
 use Rattle.link_steps.proofs.send.Goals as goal
 
 pub returns-then-link : goal.returns-then-link

@@ -1,5 +1,4 @@
 -- The step of the socket's record, stored at its place.
-use borrow.Author.Rules.{rules}
 use Rattle.local_calls.proofs.close_at.Goals as goal
 
 pub returns : goal.returns

@@ -1,5 +1,4 @@
 -- The tests of `open_at`, in their order.
-use borrow.Author.Rules.{rules}
 use mathlib.Core.Path.{sym, ◌∙◌}
 use Rattle.local_calls.proofs.open_at.Goals as goal
 

@@ -1,13 +1,10 @@
 -- The rest of both lists is the same where the whole lists are, one octet at a time.
-use Prim.Native.Nat.{ℕ, ◌≤◌, ◌-◌}
-use borrow.Author.Rules.{rules}
+use Prim.Native.Nat.{ℕ}
 use borrow.Author.Tests.{eq-eqb, ne_eqb}
-use lib.ListN.{length, drop}
 use mathlib.Core.List.{List}
-use mathlib.Core.Path.{◌≡◌, sym, ◌∙◌}
+use mathlib.Core.Path.{sym, ◌∙◌}
 use native.Mathlib.Omega.{arith}
 use Rattle.octets.proofs.Parts.{same_step, same_end}
-use Rattle.octets.specs.Parts.{same}
 use Rattle.octet_parts.proofs.same_all.Goals as goal
 
 pub returns-then-a-j : goal.returns-then-a-j

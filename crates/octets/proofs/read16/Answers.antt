@@ -1,5 +1,4 @@
 use Prim.Native.Nat.{◌+◌}
-use borrow.Author.Rules.{rules}
 use lib.ListN.{get_or-eq_default}
 use native.Mathlib.Omega.{arith}
 use Rattle.octets.proofs.read16.Goals as goal

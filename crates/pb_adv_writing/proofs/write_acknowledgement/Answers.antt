@@ -1,4 +1,3 @@
-use borrow.Author.Rules.{rules}
 use Rattle.pb_adv.specs.Frame.{acknowledgement_octets}
 use Rattle.pb_adv_writing.proofs.write_acknowledgement.Goals as goal
 

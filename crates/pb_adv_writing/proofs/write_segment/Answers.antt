@@ -1,6 +1,6 @@
 use Prim.Native.Nat.{◌≤◌}
 use borrow.Author.Rules.{rules}
-use borrow.Author.Tests.{le-leb, not-true, not-false}
+use borrow.Author.Tests.{le-leb}
 use lib.ListN.{length}
 use mathlib.Core.Bool.{true, false}
 use mathlib.Core.Path.{◌≡◌, sym, ◌∙◌}

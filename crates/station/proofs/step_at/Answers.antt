@@ -1,6 +1,5 @@
 -- The part that was lent and is back is a write (`back`).
 use Prim.Native.Nat.{◌*◌, ◌+◌, ◌-◌, ℕ}
-use borrow.Author.Rules.{rules}
 use mathlib.Core.Path.{◌∙◌}
 use native.Mathlib.Nat.{add-sub_cancel_left}
 use native.Mathlib.Omega.{arith}

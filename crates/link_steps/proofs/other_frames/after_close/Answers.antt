@@ -1,4 +1,3 @@
-use borrow.Author.Rules.{rules}
 use Rattle.link_steps.proofs.other_frames.after_close.Goals as goal
 
 pub returns : goal.returns

@@ -1,5 +1,4 @@
 -- The tests in the order of `acknowledgement_step`.
-use borrow.Author.Rules.{rules}
 use borrow.Author.Tests.{eq-eqb, ne_eqb}
 use Rattle.links.specs.Station.{acknowledgement_step}
 use Rattle.link_steps.proofs.other_frames.on_acknowledgement.Goals as goal

@@ -1,5 +1,4 @@
 -- By the link's state.
-use borrow.Author.Rules.{rules}
 use Rattle.links.specs.Station.{frame_step}
 use Rattle.link_steps.proofs.other_frames.step_frame.Goals as goal
 

@@ -1,5 +1,4 @@
 -- By the kind of the frame; a segment does not come here (`NoSegment`), and the arm that it shares is that of an Open (`refused-open`).
-use borrow.Author.Rules.{rules}
 use mathlib.Core.Path.{◌∙◌}
 use Rattle.links.specs.Station.{frame_step}
 use Rattle.link_steps.proofs.Laws.{refused-open}

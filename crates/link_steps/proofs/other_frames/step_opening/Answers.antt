@@ -1,5 +1,4 @@
 -- By the kind of the frame; the arm of three kinds says that the tag is one of theirs (`refused-opening`).
-use borrow.Author.Rules.{rules}
 use mathlib.Core.Path.{◌∙◌}
 use Rattle.links.specs.Station.{frame_step}
 use Rattle.link_steps.proofs.Laws.{refused-opening}

@@ -1,5 +1,4 @@
 -- A Start that fits asks of segment 0 what `enter` wants.
-use borrow.Author.Rules.{rules}
 use native.Mathlib.Omega.{arith}
 use Rattle.link_steps.proofs.segments.begin_message.Goals as goal
 

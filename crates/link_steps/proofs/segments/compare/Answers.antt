@@ -1,5 +1,4 @@
 -- What `same_part` says, by the place of the segment.
-use borrow.Author.Rules.{rules}
 use Rattle.link_steps.specs.Steps.{compared}
 use Rattle.link_steps.proofs.segments.compare.Goals as goal
 

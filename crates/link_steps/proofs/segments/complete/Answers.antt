@@ -1,5 +1,4 @@
 -- The tests in the order of `completed`: all marked, then the check octet.
-use borrow.Author.Rules.{rules}
 use borrow.Author.Tests.{eq-eqb, ne_eqb}
 use lib.Seq.{length-take-le}
 use mathlib.Core.Path.{sym}

@@ -1,6 +1,5 @@
 -- A copy that fits is a write (`copied-part`), and what is entered is that write and `completed` (`entered-is`, `entered-part`).
 use Prim.Native.Nat.{◌+◌, ◌≤◌}
-use borrow.Author.Rules.{rules}
 use lib.ListN.{length}
 use mathlib.Core.Path.{ap, sym}
 use native.Mathlib.Omega.{arith}

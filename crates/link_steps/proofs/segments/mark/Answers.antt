@@ -1,5 +1,4 @@
 -- A segment up to 63 has a bit of its own in the marks.
-use borrow.Author.Rules.{rules}
 use borrow.Author.Tests.{le-leb}
 use Rattle.link_steps.proofs.segments.mark.Goals as goal
 

@@ -1,5 +1,4 @@
 -- By what is half-received; a message that is half-received has a length in range (`InRange`).
-use borrow.Author.Rules.{rules}
 use borrow.Author.Tests.{eq-eqb, ne_eqb}
 use mathlib.Core.Path.{subst}
 use Rattle.link_steps.specs.Steps.{InRange}

@@ -1,5 +1,4 @@
 -- By what is half-received, then the tests in the order of `on_half`.
-use borrow.Author.Rules.{rules}
 use borrow.Author.Tests.{eq-eqb, ne_eqb}
 use Rattle.link_steps.proofs.segments.on_start.Goals as goal
 

@@ -1,5 +1,4 @@
 -- The last delivered number first, then the header.
-use borrow.Author.Rules.{rules}
 use mathlib.Core.Path.{◌∙◌, subst, sym}
 use Rattle.octets.specs.Parts.{part}
 use Rattle.link_steps.specs.Calls.{one_link}

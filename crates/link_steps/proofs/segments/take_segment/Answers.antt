@@ -1,5 +1,4 @@
 -- By the link's state, then the direction.
-use borrow.Author.Rules.{rules}
 use Rattle.links.specs.Station.{frame_step}
 use Rattle.link_steps.proofs.segments.take_segment.Goals as goal
 

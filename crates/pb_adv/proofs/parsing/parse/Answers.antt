@@ -1,4 +1,3 @@
-use borrow.Author.Rules.{rules}
 use Rattle.octets.proofs.Tests.{tests}
 use Rattle.pb_adv.specs.Frame.{parsed}
 use Rattle.pb_adv.proofs.parsing.parse.Goals as goal

@@ -1,4 +1,3 @@
-use borrow.Author.Rules.{rules}
 use Rattle.pb_adv.proofs.parsing.segment_from.Goals as goal
 
 pub returns : goal.returns

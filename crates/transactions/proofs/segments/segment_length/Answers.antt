@@ -1,4 +1,3 @@
-use borrow.Author.Rules.{rules}
 use native.Mathlib.Omega.{arith}
 use Rattle.octets.proofs.Cut.{place_up}
 use Rattle.transactions.proofs.segments.segment_length.Goals as goal
