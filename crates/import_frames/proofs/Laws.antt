@@ -56,17 +56,14 @@ part-within l from count =
 
 -- ---- the arms of all other cases
 
--- frames whose refusals are no repeats
-abbrev pub no_repeats : List ℕ
-no_repeats = 0 ∷ 2 ∷ 3 ∷ 5 ∷ []
-
-pub no-repeat : (p : Parsed) → OneOf no_repeats (tag_of parsed-type p) → (next : TransactionNumber) (n : ℕ) → false ≡ is_repeat next p n
-no-repeat (P.Segment s) h next n = refl
-no-repeat (P.Acknowledgement id t) h next n = absurd (miss no_repeats 1 tt h)
-no-repeat (P.Open id uuid) h next n = refl
-no-repeat (P.Ack id) h next n = refl
-no-repeat (P.Close id reason) h next n = absurd (miss no_repeats 4 tt h)
-no-repeat (P.Refused r) h next n = refl
+-- frames whose refusals are no repeats: neither an acknowledgement nor a Close
+pub no-repeat : (p : Parsed) → ((id : ℕ) (t : TransactionNumber) → p ≡ P.Acknowledgement id t → ⊥) → ((id reason : ℕ) → p ≡ P.Close id reason → ⊥) → (next : TransactionNumber) (n : ℕ) → false ≡ is_repeat next p n
+no-repeat (P.Segment s) h k next n = refl
+no-repeat (P.Acknowledgement id t) h k next n = absurd (h id t refl)
+no-repeat (P.Open id uuid) h k next n = refl
+no-repeat (P.Ack id) h k next n = refl
+no-repeat (P.Close id reason) h k next n = absurd (k id reason refl)
+no-repeat (P.Refused r) h k next n = refl
 
 -- frames that ask nothing
 abbrev pub ask_nothing : List ℕ
@@ -81,10 +78,7 @@ asks_nothing (P.Close id reason) h links found = absurd (miss ask_nothing 4 tt h
 asks_nothing (P.Refused r) h links found = absurd (miss ask_nothing 5 tt h)
 
 -- answers that are no refusals
-abbrev pub no_refusals : List ℕ
-no_refusals = 1 ∷ 2 ∷ []
-
-pub nothing-told : (o : Outcome) → OneOf no_refusals (tag_of outcome-type o) → (tray : Tray) (line : ℕ) (origin : Origin) → nothing_after tray ≡ local_by o tray line origin
-nothing-told (O.Refused n) h tray line origin = absurd (miss no_refusals 0 tt h)
+pub nothing-told : (o : Outcome) → ((n : ℕ) → o ≡ O.Refused n → ⊥) → (tray : Tray) (line : ℕ) (origin : Origin) → nothing_after tray ≡ local_by o tray line origin
+nothing-told (O.Refused n) h tray line origin = absurd (h n refl)
 nothing-told (O.Delivered n t) h tray line origin = refl
 nothing-told O.Nothing h tray line origin = refl

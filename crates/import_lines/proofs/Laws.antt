@@ -163,11 +163,8 @@ module _ (line : List ℕ) where
 -- ---- the arms of all other cases
 
 -- answers that are no refusals
-abbrev pub no_refusals : List ℕ
-no_refusals = 1 ∷ 2 ∷ []
-
-pub opened-told : (o : Outcome) → OneOf no_refusals (tag_of outcome-type o) → (tray : Tray) (number : ℕ) (s : Socket) (id : ℕ)
+pub opened-told : (o : Outcome) → ((n : ℕ) → o ≡ O.Refused n → ⊥) → (tray : Tray) (number : ℕ) (s : Socket) (id : ℕ)
     → nothing_after (with_stock tray (socket_place s) Missing) ≡ opened_by o tray number s id
-opened-told (O.Refused n) h tray number s id = absurd (miss no_refusals 0 tt h)
+opened-told (O.Refused n) h tray number s id = absurd (h n refl)
 opened-told (O.Delivered n t) h tray number s id = refl
 opened-told O.Nothing h tray number s id = refl

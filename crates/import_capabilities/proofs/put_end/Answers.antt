@@ -1,0 +1,10 @@
+use mathlib.Core.Bool.{false≢true}
+use mathlib.Core.Path.{refl, sym, ◌∙◌}
+use borrow.Author.Rules.{rules}
+use Rattle.import_capabilities.proofs.put_end.Goals as goal
+
+pub returns-then-streams : goal.returns-then-streams
+returns-then-streams g c = record { whole = λ _. c.put_last.ensures; short = λ n. absurd (false≢true (sym n ∙ c.if-streams.true)) }
+
+pub returns : goal.returns
+returns g c = record { whole = λ y. absurd (false≢true (sym c.if-streams.false ∙ y)); short = λ _. (refl, refl) }

@@ -1,0 +1,47 @@
+use mathlib.Core.Bool.{false≢true}
+use Prim.Native.Nat.{ℕ}
+use mathlib.Core.Path.{refl, sym, ap, ◌∙◌}
+use Rattle.lines.specs.Streams.{is_whole}
+use borrow.Author.Rules.{rules}
+use Rattle.import_capabilities.proofs.take_turn.Goals as goal
+
+pub put_report-requires : goal.put_report-requires
+put_report-requires g c = c.requires
+
+pub shape_of-input-then-is_whole : goal.shape_of-input-then-is_whole
+shape_of-input-then-is_whole g c = c.next_piece-streams.auto.input
+
+pub returns-then-is_whole : goal.returns-then-is_whole
+returns-then-is_whole g c =
+    let t = c in
+    let w = t in
+    let i = w in
+    let h = i in
+    let n = h in
+    let all = ap (λ (k : ℕ). is_whole n.next_piece-streams.result k) (sym i.begun-begun.ensures) ∙ sym i.is_whole.ensures ∙ w.if-is_whole.true in
+    let x = rw w.whole_line-whole.ensures at t.take_held-taken.ensures in
+    record {
+      read = record { streams = n.next_piece-streams.result; line = h.hold_piece-line.result; log = n.args.progress.log };
+      piece = record { found = n.next_piece-streams.ensures.0; line = h.hold_piece-line.ensures; log = refl };
+      whole =
+          λ _. record {
+            text = rw x.0 at c.put_report.ensures;
+            none = c.empty_line.ensures;
+            log = rw x.0;
+            lent = x.1;
+          };
+      goes = λ none. absurd (false≢true (sym none ∙ all));
+    }
+
+pub returns : goal.returns
+returns g c =
+    let i = c in
+    let h = i in
+    let n = h in
+    let none = ap (λ (k : ℕ). is_whole n.next_piece-streams.result k) (sym i.begun-begun.ensures) ∙ sym i.is_whole.ensures ∙ c.if-is_whole.false in
+    record {
+      read = record { streams = n.next_piece-streams.result; line = h.hold_piece-line.result; log = n.args.progress.log };
+      piece = record { found = n.next_piece-streams.ensures.0; line = h.hold_piece-line.ensures; log = refl };
+      whole = λ all. absurd (false≢true (sym none ∙ all));
+      goes = λ _. (refl, refl, refl);
+    }

@@ -1,0 +1,5 @@
+use borrow.Author.Rules.{rules}
+use Rattle.import_capabilities.proofs.waits.Goals as goal
+
+pub returns : goal.returns
+returns c = rw c.in-Count.is c.add_waiting.ensures
