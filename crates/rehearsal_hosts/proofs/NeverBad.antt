@@ -25,7 +25,7 @@ use Rattle.links.proofs.Promises.{receiving-keeps-count, receiving-keeps-good, l
 use Rattle.station.specs.Calls.{station_of, receiving}
 use Rattle.device.specs.Calls.{only_socket}
 use Rattle.rehearsal_hosts.specs.Hosts.{one_more, with_acknowledgements, begun_by, begun, device_sending, device_sent, device_notes}
-use Rattle.rehearsal_hosts.specs.Ends.{invited, station_heard, closed_by, closed_end, answered_by, answered_end, with_link, device_heard}
+use Rattle.rehearsal_hosts.specs.Ends.{invited, station_heard, closed_by, closed_end, answered_by, with_link, device_heard}
 use Rattle.rehearsal_hosts.specs.Promises.{NeverBad}
 use Rattle.rehearsal_hosts.specs.declared.StationEnd.{StationEnd}
 use Rattle.rehearsal_hosts.specs.declared.DeviceHost.{DeviceHost}

@@ -27,7 +27,6 @@ use Rattle.rehearsal_hosts.specs.declared.StationEnd.{StationEnd}
 use Rattle.transactions.specs.declared.Socket.{Socket}
 use Rattle.rehearsal_hosts.specs.declared.StationHost.{StationHost}
 use Rattle.rehearsal_hosts.specs.declared.DeviceHost.{DeviceHost}
-use Rattle.rehearsal_hosts.specs.declared.Sending.{Sending}
 use Rattle.rehearsal_hosts.specs.declared.Sending.TheVariants.{Close, Acknowledgement}
 use Rattle.rehearsal_hosts.proofs.Laws.{refused-same, begun-same}
 

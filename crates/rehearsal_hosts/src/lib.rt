@@ -1,6 +1,7 @@
 // The two ends of a link in a rehearsal, each with its host: what the host keeps beside the link record, what it has to send, what it notes of an
 // answer, and the calls that it makes.
 #![tactic(auto)]
+
 mod devices;
 mod ends;
 mod stations;
