@@ -1,5 +1,6 @@
 // The tray of the import step: its link records, and what the table has of each socket.
 #![tactic(auto)]
+
 ghost use Rattle.std.specs.Prelude.{◌≡◌, get_or, set};
 ghost use Rattle.import_tray.specs.declared.Stock.TheVariants.{Unopened};
 ghost use Rattle.import_tray.specs.Trays.{stock_of, new_tray, stock_at, with_links, with_stock, row_after, last_report};
