@@ -1,5 +1,6 @@
 // Document 01's numbers of refusals, for programs that print them. Each is the number that the definitions give.
 #![tactic(auto)]
+
 ghost use Rattle.std.specs.Prelude.{◌≡◌};
 ghost use Rattle.links.specs.Links.{refusal_number as stationNumber};
 ghost use Rattle.provisioning.specs.Message.{refusal_number as message_number};
