@@ -1,5 +1,6 @@
 // A line of input of any length, held in 64 characters so that it is imported as the whole line would be.
 #![tactic(auto)]
+
 ghost use Rattle.std.specs.Prelude.{false, cond, ◌≡◌, ◌≤◌, length};
 ghost use Rattle.held_line.specs.Held.{is_digit, full_count, full_buffer, count_after, buffer_after};
 ghost use Rattle.held_line.specs.Lines.{empty_line, held_piece, settled, begun};

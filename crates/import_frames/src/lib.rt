@@ -1,5 +1,6 @@
 // One frame of the import step, as it was heard or as the station sent it.
 #![tactic(auto)]
+
 mod heard;
 mod origins;
 mod sent;

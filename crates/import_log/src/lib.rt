@@ -1,5 +1,6 @@
 // A tray's log, line by line: the tray after the lines so far, and how many they were.
 #![tactic(auto)]
+
 ghost use Rattle.std.specs.Prelude.{◌≡◌};
 ghost use Rattle.import_log.specs.Logs.{next_number, new_log, taken, area_after};
 

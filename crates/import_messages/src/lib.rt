@@ -1,5 +1,6 @@
 // What becomes of a message that was delivered: a record, one after it, a message of another kind, or a refusal by the reader.
 #![tactic(auto)]
+
 ghost use Rattle.std.specs.Prelude.{◌≡◌};
 ghost use Rattle.import_messages.specs.Messages.{reading_of, same_fields, further_word, capabilities_step, message_step};
 

@@ -20,5 +20,5 @@ returns c =
     let x : List ℕ = b.args.line.characters in
     let n : ℕ = c.if-returned.count in
     let e : n ≡ cond (ends_in_return p) (length p - 1) (length p) =
-        elim c.if-returned.branch [ then-returned w ↦ rw w.if-returned.true w.count-is | else-returned w ↦ rw (ne_eqb _ _ w.if-returned.false) w.count-is ] in
+    elim c.if-returned.branch [ then-returned w ↦ rw w.if-returned.true w.count-is | else-returned w ↦ rw (ne_eqb _ _ w.if-returned.false) w.count-is ] in
     rw (c.copy.ensures.1, b.requires.0, b.requires.1) (held-copied x (search rules) p n b.requires.2 e)

@@ -1,0 +1,22 @@
+use borrow.Author.Rules.{rules}
+use Prim.Native.Nat.{◌≤◌}
+use lib.ListN.{length}
+use mathlib.Core.Path.{◌≡◌, refl}
+use native.Mathlib.Omega.{arith}
+use Rattle.lines.specs.Runs.{RunsTo}
+use Rattle.lines.proofs.Runs.{runs_on, runs-out}
+use Rattle.segment_lines.specs.Runs.{state_of, program, first}
+use Rattle.segment_lines.proofs.Laws.{turn-few}
+use Rattle.segment_lines.proofs.Runs.{runs-start}
+use Rattle.segment_lines.proofs.run.Given as goal
+
+abbrev pub invariant-loop-turns : goal.invariant-loop-turns
+invariant-loop-turns g l =
+    (length l.input ≡ length l.initial.input)
+    × (length l.line ≡ length l.initial.line)
+    × (length l.output ≡ length l.initial.output)
+    × (l.progress.held ≤ length l.line)
+    × RunsTo program (first l.initial.input l.initial.line l.initial.output) (state_of l.progress l.input l.line l.output) l.turns
+
+abbrev pub decreases-loop-turns : goal.decreases-loop-turns
+decreases-loop-turns g l = l.turns
