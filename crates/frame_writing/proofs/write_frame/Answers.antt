@@ -26,9 +26,7 @@ returns-then-output-at c =
 
 pub returns : goal.returns
 returns c =
-    let b = c in
-    let h = b in
-    let a = h.args in
+    let a = c.args in
     let head = frame_octets a.id a.number.0 a.kind [] in
     let x = a.fields.now in
     let y = a.octets.now in
@@ -38,7 +36,7 @@ returns c =
     let long : length (frame_octets a.id a.number.0 a.kind (x ++ y)) ≡ 6 + length x + length y = omega arith in (
       ap Count (sym long) ∙ sym (written-fits _ out (omega arith)),
       c.copy-2.ensures.1
-          ∙ rw (b.copy.ensures.1, h.put_head.ensures)
+          ∙ rw (c.copy.ensures.1, c.put_head.ensures)
           (rw (copied_next out 0 head x 6 (omega arith) (omega arith), copied_next out 0 (head ++ x) y (6 + length x) (omega arith) (omega arith))
           (sym (output-fits (frame_octets a.id a.number.0 a.kind (x ++ y)) out (omega arith)))),
     )

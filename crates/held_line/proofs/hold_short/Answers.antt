@@ -15,10 +15,9 @@ returns-then-length-eq0 c = let a = c.args in held-empty a.line a.piece.now c.if
 
 pub returns : goal.returns
 returns c =
-    let b = c in
-    let p : List ℕ = b.args.piece.now in
-    let x : List ℕ = b.args.line.characters in
+    let p : List ℕ = c.args.piece.now in
+    let x : List ℕ = c.args.line.characters in
     let n : ℕ = c.if-returned.count in
     let e : n ≡ cond (ends_in_return p) (length p - 1) (length p) =
     elim c.if-returned.branch [ then-returned w ↦ rw w.if-returned.true w.count-is | else-returned w ↦ rw (ne_eqb _ _ w.if-returned.false) w.count-is ] in
-    rw (c.copy.ensures.1, b.requires.0, b.requires.1) (held-copied x (search rules) p n b.requires.2 e)
+    rw (c.copy.ensures.1, c.requires.0, c.requires.1) (held-copied x (search rules) p n c.requires.2 e)

@@ -18,12 +18,11 @@ bounds-output-at-in-loop-j c = simp length-set (omega arith)
 
 pub loop-j-preserved : goal.loop-j-preserved
 loop-j-preserved c =
-    let l = c.loop-j in
-    let s = c in (
+    let l = c.loop-j in (
       omega arith,
       simp length-set l.invariant.1,
       rw (l.invariant.2, c.digit.ensures, c.digit-in-loop-j.ensures)
-          (text-turn s.args.output.now s.args.octets.now s.args.at l.j (omega arith) s.requires),
+          (text-turn c.args.output.now c.args.octets.now c.args.at l.j (omega arith) c.requires),
     )
 
 pub returns : goal.returns

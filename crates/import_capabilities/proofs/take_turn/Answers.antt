@@ -13,16 +13,11 @@ shape_of-input-then-is_whole g c = c.next_piece-streams.auto.input
 
 pub returns-then-is_whole : goal.returns-then-is_whole
 returns-then-is_whole g c =
-    let t = c in
-    let w = t in
-    let i = w in
-    let h = i in
-    let n = h in
-    let all = ap (λ (k : ℕ). is_whole n.next_piece-streams.result k) (sym i.begun-begun.ensures) ∙ sym i.is_whole.ensures ∙ w.if-is_whole.true in
-    let x = rw w.whole_line-whole.ensures at t.take_held-taken.ensures in
+    let all = ap (λ (k : ℕ). is_whole c.next_piece-streams.result k) (sym c.begun-begun.ensures) ∙ sym c.is_whole.ensures ∙ c.if-is_whole.true in
+    let x = rw c.whole_line-whole.ensures at c.take_held-taken.ensures in
     record {
-      read = record { streams = n.next_piece-streams.result; line = h.hold_piece-line.result; log = n.args.progress.log };
-      piece = record { found = n.next_piece-streams.ensures.0; line = h.hold_piece-line.ensures; log = refl };
+      read = record { streams = c.next_piece-streams.result; line = c.hold_piece-line.result; log = c.args.progress.log };
+      piece = record { found = c.next_piece-streams.ensures.0; line = c.hold_piece-line.ensures; log = refl };
       whole =
           λ _. record {
             text = rw x.0 at c.put_report.ensures;
@@ -35,13 +30,10 @@ returns-then-is_whole g c =
 
 pub returns : goal.returns
 returns g c =
-    let i = c in
-    let h = i in
-    let n = h in
-    let none = ap (λ (k : ℕ). is_whole n.next_piece-streams.result k) (sym i.begun-begun.ensures) ∙ sym i.is_whole.ensures ∙ c.if-is_whole.false in
+    let none = ap (λ (k : ℕ). is_whole c.next_piece-streams.result k) (sym c.begun-begun.ensures) ∙ sym c.is_whole.ensures ∙ c.if-is_whole.false in
     record {
-      read = record { streams = n.next_piece-streams.result; line = h.hold_piece-line.result; log = n.args.progress.log };
-      piece = record { found = n.next_piece-streams.ensures.0; line = h.hold_piece-line.ensures; log = refl };
+      read = record { streams = c.next_piece-streams.result; line = c.hold_piece-line.result; log = c.args.progress.log };
+      piece = record { found = c.next_piece-streams.ensures.0; line = c.hold_piece-line.ensures; log = refl };
       whole = λ all. absurd (false≢true (sym none ∙ all));
       goes = λ _. (refl, refl, refl);
     }

@@ -7,15 +7,13 @@ use Rattle.link_search.proofs.find_link.Goals as goal
 
 pub returns-then-has_id : goal.returns-then-has_id
 returns-then-has_id c =
-    let s = c in
-    finds s.args.links s.args.id s.loop-i.i s.loop-i.invariant.1 (omega arith) c.has_id.ensures c.if-has_id.true
+    finds c.args.links c.args.id c.loop-i.i c.loop-i.invariant.1 (omega arith) c.has_id.ensures c.if-has_id.true
 
 pub loop-i-preserved : goal.loop-i-preserved
-loop-i-preserved c =
-    let s = c in (
-      s.loop-i.invariant.0,
-      looks_on s.args.links s.args.id s.loop-i.i s.loop-i.invariant.1 (omega arith) c.has_id.ensures c.if-has_id.false,
-    )
+loop-i-preserved c = (
+  c.loop-i.invariant.0,
+  looks_on c.args.links c.args.id c.loop-i.i c.loop-i.invariant.1 (omega arith) c.has_id.ensures c.if-has_id.false,
+)
 
 pub returns : goal.returns
 unfolding find_from

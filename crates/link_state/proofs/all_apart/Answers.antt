@@ -7,18 +7,16 @@ use Rattle.links.specs.Station.{no_link}
 use Rattle.link_state.proofs.all_apart.Goals as goal
 
 pub loop-i-preserved : goal.loop-i-preserved
-loop-i-preserved c =
-    let s = c in (
-      s.loop-i.invariant.0,
-      goes_on all_apart (λ x xs. all (apart x) xs) (λ x xs. refl) s.args.links s.loop-i.i no_link
-          s.loop-i.invariant.1 (omega arith) c.is_apart_from.ensures c.if-is_apart_from.true,
-    )
+loop-i-preserved c = (
+  c.loop-i.invariant.0,
+  goes_on all_apart (λ x xs. all (apart x) xs) (λ x xs. refl) c.args.links c.loop-i.i no_link
+      c.loop-i.invariant.1 (omega arith) c.is_apart_from.ensures c.if-is_apart_from.true,
+)
 
 pub returns-else-is_apart_from : goal.returns-else-is_apart_from
 returns-else-is_apart_from c =
-    let s = c in
-    stops all_apart (λ x xs. all (apart x) xs) (λ x xs. refl) s.args.links s.loop-i.i no_link
-    s.loop-i.invariant.1 (omega arith) c.is_apart_from.ensures c.if-is_apart_from.false
+    stops all_apart (λ x xs. all (apart x) xs) (λ x xs. refl) c.args.links c.loop-i.i no_link
+    c.loop-i.invariant.1 (omega arith) c.is_apart_from.ensures c.if-is_apart_from.false
 
 pub returns : goal.returns
 returns c =

@@ -8,19 +8,17 @@ use Rattle.link_state.proofs.all_good.Goals as goal
 
 pub loop-i-preserved : goal.loop-i-preserved
 loop-i-preserved c =
-    let s = c in
-    let p = good_link s.args.side in (
-      s.loop-i.invariant.0,
-      goes_on (all p) (λ x xs. p x) (λ x xs. refl) s.args.links s.loop-i.i no_link
-          s.loop-i.invariant.1 (omega arith) c.is_good_link.ensures c.if-is_good_link.true,
+    let p = good_link c.args.side in (
+      c.loop-i.invariant.0,
+      goes_on (all p) (λ x xs. p x) (λ x xs. refl) c.args.links c.loop-i.i no_link
+          c.loop-i.invariant.1 (omega arith) c.is_good_link.ensures c.if-is_good_link.true,
     )
 
 pub returns-else-is_good_link : goal.returns-else-is_good_link
 returns-else-is_good_link c =
-    let s = c in
-    let p = good_link s.args.side in
-    stops (all p) (λ x xs. p x) (λ x xs. refl) s.args.links s.loop-i.i no_link
-    s.loop-i.invariant.1 (omega arith) c.is_good_link.ensures c.if-is_good_link.false
+    let p = good_link c.args.side in
+    stops (all p) (λ x xs. p x) (λ x xs. refl) c.args.links c.loop-i.i no_link
+    c.loop-i.invariant.1 (omega arith) c.is_good_link.ensures c.if-is_good_link.false
 
 pub returns : goal.returns
 returns c =

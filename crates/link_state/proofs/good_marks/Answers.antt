@@ -3,22 +3,20 @@ use Rattle.link_state.proofs.good_marks.Goals as goal
 
 pub returns-then-all_marked : goal.returns-then-all_marked
 returns-then-all_marked c =
-    let d = c in
     simp (
-      ← d.is_marked.ensures,
-      d.if-is_marked.true,
-      ← d.last_segment-last.ensures,
+      ← c.is_marked.ensures,
+      c.if-is_marked.true,
+      ← c.last_segment-last.ensures,
       ← c.all_marked.ensures,
       c.if-all_marked.true,
     )
 
 pub returns-else-all_marked : goal.returns-else-all_marked
 returns-else-all_marked c =
-    let d = c in
     simp (
-      ← d.is_marked.ensures,
-      d.if-is_marked.true,
-      ← d.last_segment-last.ensures,
+      ← c.is_marked.ensures,
+      c.if-is_marked.true,
+      ← c.last_segment-last.ensures,
       ← c.all_marked.ensures,
       c.if-all_marked.false,
       ← c.none_above.ensures,

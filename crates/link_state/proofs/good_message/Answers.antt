@@ -5,11 +5,10 @@ use Rattle.link_state.proofs.good_message.Goals as goal
 pub returns-then-is_last : goal.returns-then-is_last
 unfolding good_message
 returns-then-is_last c =
-    let d = c in
     simp (
-      ← d.peer_of.ensures,
-      ← d.is_sent_by.ensures,
-      d.if-is_sent_by.true,
+      ← c.peer_of.ensures,
+      ← c.is_sent_by.ensures,
+      c.if-is_sent_by.true,
       ← c.is_length.ensures,
       c.if-is_length.true,
       ← c.is_last.ensures,
@@ -19,14 +18,12 @@ returns-then-is_last c =
 pub returns-else-is_last : goal.returns-else-is_last
 unfolding good_message
 returns-else-is_last c =
-    let e = c in
-    let d = e in
     simp (
-      ← d.peer_of.ensures,
-      ← d.is_sent_by.ensures,
-      d.if-is_sent_by.true,
-      ← e.is_length.ensures,
-      e.if-is_length.true,
+      ← c.peer_of.ensures,
+      ← c.is_sent_by.ensures,
+      c.if-is_sent_by.true,
+      ← c.is_length.ensures,
+      c.if-is_length.true,
       ← c.is_last.ensures,
       c.if-is_last.false,
       c.good_marks.ensures,
@@ -35,11 +32,10 @@ returns-else-is_last c =
 pub returns-else-is_length : goal.returns-else-is_length
 unfolding good_message
 returns-else-is_length c =
-    let d = c in
     simp (
-      ← d.peer_of.ensures,
-      ← d.is_sent_by.ensures,
-      d.if-is_sent_by.true,
+      ← c.peer_of.ensures,
+      ← c.is_sent_by.ensures,
+      c.if-is_sent_by.true,
       ← c.is_length.ensures,
       c.if-is_length.false,
     )

@@ -3,10 +3,9 @@ use Rattle.link_state.proofs.good_open.Goals as goal
 
 pub returns-then-good_last : goal.returns-then-good_last
 returns-then-good_last c =
-    let d = c in
     simp (
-      ← d.is_sent_by.ensures,
-      d.if-is_sent_by.true,
+      ← c.is_sent_by.ensures,
+      c.if-is_sent_by.true,
       ← c.good_last.ensures,
       c.if-good_last.true,
       c.good_half.ensures,
@@ -14,8 +13,7 @@ returns-then-good_last c =
 
 pub returns-else-good_last : goal.returns-else-good_last
 returns-else-good_last c =
-    let d = c in
-    simp (← d.is_sent_by.ensures, d.if-is_sent_by.true, ← c.good_last.ensures, c.if-good_last.false)
+    simp (← c.is_sent_by.ensures, c.if-is_sent_by.true, ← c.good_last.ensures, c.if-good_last.false)
 
 pub returns-else-is_sent_by : goal.returns-else-is_sent_by
 returns-else-is_sent_by c = simp (← c.is_sent_by.ensures, c.if-is_sent_by.false)

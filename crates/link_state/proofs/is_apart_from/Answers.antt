@@ -8,19 +8,17 @@ use Rattle.link_state.proofs.is_apart_from.Goals as goal
 
 pub loop-i-preserved : goal.loop-i-preserved
 loop-i-preserved c =
-    let s = c in
-    let p = apart s.args.link in (
-      s.loop-i.invariant.0,
-      goes_on (all p) (λ x xs. p x) (λ x xs. refl) s.args.links s.loop-i.i no_link
-          s.loop-i.invariant.1 (omega arith) c.are_apart.ensures c.if-are_apart.true,
+    let p = apart c.args.link in (
+      c.loop-i.invariant.0,
+      goes_on (all p) (λ x xs. p x) (λ x xs. refl) c.args.links c.loop-i.i no_link
+          c.loop-i.invariant.1 (omega arith) c.are_apart.ensures c.if-are_apart.true,
     )
 
 pub returns-else-are_apart : goal.returns-else-are_apart
 returns-else-are_apart c =
-    let s = c in
-    let p = apart s.args.link in
-    stops (all p) (λ x xs. p x) (λ x xs. refl) s.args.links s.loop-i.i no_link
-    s.loop-i.invariant.1 (omega arith) c.are_apart.ensures c.if-are_apart.false
+    let p = apart c.args.link in
+    stops (all p) (λ x xs. p x) (λ x xs. refl) c.args.links c.loop-i.i no_link
+    c.loop-i.invariant.1 (omega arith) c.are_apart.ensures c.if-are_apart.false
 
 pub returns : goal.returns
 returns c =

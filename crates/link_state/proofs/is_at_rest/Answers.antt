@@ -6,11 +6,10 @@ returns-then-link c = simp (← c.is_first.ensures, c.if-is_first.true, c.if-lin
 
 pub returns-then-is_nothing : goal.returns-then-is_nothing
 returns-then-is_nothing c =
-    let d = c in
     simp (
-      ← d.is_first.ensures,
-      d.if-is_first.true,
-      d.if-link.false,
+      ← c.is_first.ensures,
+      c.if-is_first.true,
+      c.if-link.false,
       ← c.is_nothing.ensures,
       c.if-is_nothing.true,
       c.is_empty.ensures,
@@ -18,8 +17,7 @@ returns-then-is_nothing c =
 
 pub returns-else-is_nothing : goal.returns-else-is_nothing
 returns-else-is_nothing c =
-    let d = c in
-    simp (← d.is_first.ensures, d.if-is_first.true, d.if-link.false, ← c.is_nothing.ensures, c.if-is_nothing.false)
+    simp (← c.is_first.ensures, c.if-is_first.true, c.if-link.false, ← c.is_nothing.ensures, c.if-is_nothing.false)
 
 pub returns-else-is_first : goal.returns-else-is_first
 returns-else-is_first c = simp (← c.is_first.ensures, c.if-is_first.false)

@@ -3,10 +3,8 @@ use Rattle.link_steps.proofs.close.Goals as goal
 
 pub returns-then-is_in_use : goal.returns-then-is_in_use
 returns-then-is_in_use c =
-    let d = c in
-    simp (← d.is_in_use.ensures, d.if-is_in_use.true, c.blank_with.ensures)
+    simp (← c.is_in_use.ensures, c.if-is_in_use.true, c.blank_with.ensures)
 
 pub returns : goal.returns
 returns c =
-    let d = c in
-    simp (← d.is_in_use.ensures, d.if-is_in_use.false, c.refuse_link.ensures)
+    simp (← c.is_in_use.ensures, c.if-is_in_use.false, c.refuse_link.ensures)

@@ -3,5 +3,4 @@ use Rattle.local_calls.proofs.close_at.Goals as goal
 
 pub returns : goal.returns
 returns c =
-    let d = c in
-    simp (c.store.ensures, d.close-stepped.ensures, d.link_at.ensures, d.place-place.ensures)
+    simp (c.store.ensures, c.close-stepped.ensures, c.link_at.ensures, c.place-place.ensures)

@@ -9,20 +9,17 @@ use Rattle.local_calls.proofs.open.Goals as goal
 pub returns-then-is_good : goal.returns-then-is_good
 unfolding local_open
 returns-then-is_good c =
-    let d = c in
-    let a = d.args in
-    c.open_at.ensures ∙ sym (judged-right a.links (is_socket a.socket) _ (search rules) (sym d.is_one_of.ensures ∙ d.if-is_one_of.true) (sym c.is_good.ensures ∙ c.if-is_good.true))
+    let a = c.args in
+    c.open_at.ensures ∙ sym (judged-right a.links (is_socket a.socket) _ (search rules) (sym c.is_one_of.ensures ∙ c.if-is_one_of.true) (sym c.is_good.ensures ∙ c.if-is_good.true))
 
 pub returns-then-is_one_of : goal.returns-then-is_one_of
 unfolding local_open
 returns-then-is_one_of c =
-    let d = c in
-    let a = d.args in
-    c.refuse_call.ensures ∙ sym (judged-bad a.links (is_socket a.socket) _ (search rules) (sym d.is_one_of.ensures ∙ d.if-is_one_of.true) (sym c.is_good.ensures ∙ c.if-is_good.false))
+    let a = c.args in
+    c.refuse_call.ensures ∙ sym (judged-bad a.links (is_socket a.socket) _ (search rules) (sym c.is_one_of.ensures ∙ c.if-is_one_of.true) (sym c.is_good.ensures ∙ c.if-is_good.false))
 
 pub returns : goal.returns
 unfolding local_open
 returns c =
-    let d = c in
-    let a = d.args in
-    c.refuse_call-2.ensures ∙ sym (judged-wrong a.links (is_socket a.socket) _ (search rules) (sym d.is_one_of.ensures ∙ d.if-is_one_of.false))
+    let a = c.args in
+    c.refuse_call-2.ensures ∙ sym (judged-wrong a.links (is_socket a.socket) _ (search rules) (sym c.is_one_of.ensures ∙ c.if-is_one_of.false))

@@ -27,16 +27,14 @@ pub returns-then-is_good : goal.returns-then-is_good
 unfolding local_send
 returns-then-is_good c =
     let both_right : right c.args.socket c.args.length 8 ≡ true = holds-both (sym c.is_one_of.ensures ∙ c.if-is_one_of.true) (sym c.is_length.ensures ∙ c.if-is_length.true) in
-    let d = c in
-    let a = d.args in
+    let a = c.args in
     c.send_at.ensures ∙ sym (judged-right a.links (right a.socket a.length) _ (search rules) (both_right) (sym c.is_good.ensures ∙ c.if-is_good.true))
 
 pub returns-then-is_length : goal.returns-then-is_length
 unfolding local_send
 returns-then-is_length c =
     let both_right : right c.args.socket c.args.length 8 ≡ true = holds-both (sym c.is_one_of.ensures ∙ c.if-is_one_of.true) (sym c.is_length.ensures ∙ c.if-is_length.true) in
-    let d = c in
-    let a = d.args in
+    let a = c.args in
     c.refuse_call.ensures ∙ sym (judged-bad a.links (right a.socket a.length) _ (search rules) (both_right) (sym c.is_good.ensures ∙ c.if-is_good.false))
 
 pub returns-then-is_one_of : goal.returns-then-is_one_of

@@ -3,5 +3,4 @@ use Rattle.local_calls.proofs.send_at.Goals as goal
 
 pub returns : goal.returns
 returns c =
-    let d = c in
-    simp (c.store.ensures, d.send-stepped.ensures, d.link_at.ensures, d.place-place.ensures)
+    simp (c.store.ensures, c.send-stepped.ensures, c.link_at.ensures, c.place-place.ensures)

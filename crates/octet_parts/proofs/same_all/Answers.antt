@@ -9,19 +9,16 @@ use Rattle.octet_parts.proofs.same_all.Goals as goal
 
 pub returns-then-a-j : goal.returns-then-a-j
 returns-then-a-j c =
-    let d = c in
-    let a : List ℕ = d.args.a.now in
-    let b : List ℕ = d.args.b.now in
-    (simp (ne_eqb _ _ c.if-a-j.true) at (sym (same_step a b d.loop-j.j (omega arith) (omega arith)))) ∙ d.loop-j.invariant.1
+    let a : List ℕ = c.args.a.now in
+    let b : List ℕ = c.args.b.now in
+    (simp (ne_eqb _ _ c.if-a-j.true) at (sym (same_step a b c.loop-j.j (omega arith) (omega arith)))) ∙ c.loop-j.invariant.1
 
 pub loop-j-preserved : goal.loop-j-preserved
 loop-j-preserved c =
-    let d = c in
-    let a : List ℕ = d.args.a.now in
-    let b : List ℕ = d.args.b.now in
-    (omega arith, (simp (eq-eqb _ _ c.if-a-j.false) at (sym (same_step a b d.loop-j.j (omega arith) (omega arith)))) ∙ d.loop-j.invariant.1)
+    let a : List ℕ = c.args.a.now in
+    let b : List ℕ = c.args.b.now in
+    (omega arith, (simp (eq-eqb _ _ c.if-a-j.false) at (sym (same_step a b c.loop-j.j (omega arith) (omega arith)))) ∙ c.loop-j.invariant.1)
 
 pub returns : goal.returns
 returns c =
-    let d = c in
-    sym (same_end d.args.a.now d.args.b.now d.loop-j.j (omega arith) (omega arith)) ∙ d.loop-j.invariant.1
+    sym (same_end c.args.a.now c.args.b.now c.loop-j.j (omega arith) (omega arith)) ∙ c.loop-j.invariant.1

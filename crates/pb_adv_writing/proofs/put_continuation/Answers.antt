@@ -8,15 +8,13 @@ use Rattle.pb_adv_writing.proofs.put_continuation.Goals as goal
 
 pub slice_bounds-write_frame-end-2 : goal.slice_bounds-write_frame-end-2
 slice_bounds-write_frame-end-2 c =
-    let b = c in
-    let a = b.args in
-    let asked = b.requires.1 in
-    omega (arith, b.segment_length.ensures, b.segment_place-from.ensures, segment-begins (length a.message.now) a.index asked.some-octets asked.index)
+    let a = c.args in
+    let asked = c.requires.1 in
+    omega (arith, c.segment_length.ensures, c.segment_place-from.ensures, segment-begins (length a.message.now) a.index asked.some-octets asked.index)
 
 pub returns : goal.returns
 unfolding piece
 returns c =
-    let d = c in
-    let a = d.args in
-    rw (continuation-frame a.id a.number a.message.now a.index d.requires.0)
-    (rw (add-sub_cancel_left, d.segment_length.ensures, d.segment_place-from.ensures) at c.write_frame.ensures)
+    let a = c.args in
+    rw (continuation-frame a.id a.number a.message.now a.index c.requires.0)
+    (rw (add-sub_cancel_left, c.segment_length.ensures, c.segment_place-from.ensures) at c.write_frame.ensures)

@@ -14,5 +14,4 @@ slice_bounds-write_frame-end-2 c =
 pub returns : goal.returns
 unfolding segment_frame header_of segment_octets piece
 returns c =
-    let d = c in
-    rw (d.last_segment.ensures, d.check_octet-check.ensures, d.segment_length-count.ensures) at c.write_frame.ensures
+    rw (c.last_segment.ensures, c.check_octet-check.ensures, c.segment_length-count.ensures) at c.write_frame.ensures

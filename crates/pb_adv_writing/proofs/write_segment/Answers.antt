@@ -38,8 +38,7 @@ put_start-requires c =
 pub returns-then-index-eq0 : goal.returns-then-index-eq0
 returns-then-index-eq0 c =
     let in-range : is_length (length c.args.message.now) ≡ true = sym c.is_length.ensures ∙ c.if-not-is_length.false in
-    let b = c in
-    rw (c.if-index-eq0.true, in-range, le-leb 0 (seg_n (length b.args.message.now)) (omega arith)) c.put_start.ensures
+    rw (c.if-index-eq0.true, in-range, le-leb 0 (seg_n (length c.args.message.now)) (omega arith)) c.put_start.ensures
 
 pub put_continuation-requires : goal.put_continuation-requires
 put_continuation-requires c =
@@ -50,5 +49,4 @@ put_continuation-requires c =
 pub returns : goal.returns
 returns c =
     let in-range : is_length (length c.args.message.now) ≡ true = sym c.is_length.ensures ∙ c.if-not-is_length.false in
-    let d = c in
-    simp (← d.last_segment.ensures, in-range, le-leb _ _ d.if-last_segment-index.false) c.put_continuation.ensures
+    simp (← c.last_segment.ensures, in-range, le-leb _ _ c.if-last_segment-index.false) c.put_continuation.ensures

@@ -9,8 +9,7 @@ returns-then-kind-gt3 c = simp (c.in-Held.is, c.if-transfer.true, lt-leb _ _ c.i
 pub returns-then-transfer : goal.returns-then-transfer
 unfolding is_good
 returns-then-transfer c =
-    let d = c in
-    simp (d.in-Held.is, d.if-transfer.true, le-leb _ _ c.if-kind-gt3.false) c.is_length.ensures
+    simp (c.in-Held.is, c.if-transfer.true, le-leb _ _ c.if-kind-gt3.false) c.is_length.ensures
 
 pub returns-in-Nothing : goal.returns-in-Nothing
 unfolding is_good

@@ -7,27 +7,25 @@ use Rattle.proxy_reading.proofs.join.Goals as goal
 pub returns-then-count-gt-LONGEST_MESSAGE : goal.returns-then-count-gt-LONGEST_MESSAGE
 unfolding joining
 returns-then-count-gt-LONGEST_MESSAGE c =
-    let d = c in
     simp (
       c.disconnect_refused.ensures,
-      ← d.is_expected.ensures,
-      d.if-is_expected.true,
-      ← d.is_like_first.ensures,
-      d.if-is_like_first.true,
+      ← c.is_expected.ensures,
+      c.if-is_expected.true,
+      ← c.is_like_first.ensures,
+      c.if-is_like_first.true,
       ← c.held_length-held.ensures.0,
-      lt-leb (c.held_length-held.result + d.args.count) 1469 (omega (arith, c.if-count-gt-LONGEST_MESSAGE.true)),
+      lt-leb (c.held_length-held.result + c.args.count) 1469 (omega (arith, c.if-count-gt-LONGEST_MESSAGE.true)),
     )
 
 pub returns-then-held-count-gt-LONGEST_MESSAGE : goal.returns-then-held-count-gt-LONGEST_MESSAGE
 unfolding joining
 returns-then-held-count-gt-LONGEST_MESSAGE c =
-    let d = c in
     simp (
       c.disconnect_refused-then-held-count-gt-LONGEST_MESSAGE.ensures,
-      ← d.is_expected.ensures,
-      d.if-is_expected.true,
-      ← d.is_like_first.ensures,
-      d.if-is_like_first.true,
+      ← c.is_expected.ensures,
+      c.if-is_expected.true,
+      ← c.is_like_first.ensures,
+      c.if-is_like_first.true,
       ← c.held_length-held.ensures.0,
       lt-leb _ _ c.if-held-count-gt-LONGEST_MESSAGE.true,
     )
@@ -35,13 +33,12 @@ returns-then-held-count-gt-LONGEST_MESSAGE c =
 pub returns-then-is_like_first : goal.returns-then-is_like_first
 unfolding joining
 returns-then-is_like_first c =
-    let d = c in
     simp (
       c.add.ensures,
-      ← d.is_expected.ensures,
-      d.if-is_expected.true,
-      ← d.is_like_first.ensures,
-      d.if-is_like_first.true,
+      ← c.is_expected.ensures,
+      c.if-is_expected.true,
+      ← c.is_like_first.ensures,
+      c.if-is_like_first.true,
       ← c.held_length-held.ensures.0,
       le-leb _ _ c.if-held-count-gt-LONGEST_MESSAGE.false,
     )

@@ -17,15 +17,13 @@ returns-then-is_refused c =
 
 pub overflow_sub-piece : goal.overflow_sub-piece
 overflow_sub-piece c =
-    let d = c in
-    let a = d.args in
-    omega (arith, (good-fits a.transfer a.buffer.now a.piece.now (judged d.judge-read.ensures d.is_refused.ensures c.if-is_refused.false)).some-data)
+    let a = c.args in
+    omega (arith, (good-fits a.transfer a.buffer.now a.piece.now (judged c.judge-read.ensures c.is_refused.ensures c.if-is_refused.false)).some-data)
 
 pub returns : goal.returns
 returns c =
-    let d = c in
-    let a = d.args in (
-      d.judge-read.ensures,
+    let a = c.args in (
+      c.judge-read.ensures,
       rw (c.copy.ensures.1, c.held_length.ensures.0)
-          (buffer-added a.transfer a.buffer.now a.piece.now (judged d.judge-read.ensures d.is_refused.ensures c.if-is_refused.false)),
+          (buffer-added a.transfer a.buffer.now a.piece.now (judged c.judge-read.ensures c.is_refused.ensures c.if-is_refused.false)),
     )

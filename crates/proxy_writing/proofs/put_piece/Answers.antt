@@ -28,14 +28,13 @@ returns-then-output-count c =
 
 pub returns : goal.returns
 returns c =
-    let b = c in
-    let a = b.args in
+    let a = c.args in
     let m = a.message.now in
     let from = (a.size - 1) * a.index in
     let count = min (a.size - 1) (length m - from) in
     let d = piece_octets a.size a.kind m a.index in
-    let within = piece-within a.size a.kind (length m) a.index b.requires in
-    let taken = b.piece_length-count.ensures in
+    let within = piece-within a.size a.kind (length m) a.index c.requires in
+    let taken = c.piece_length-count.ensures in
     let long = piece-long a.size a.kind m a.index in
     let room : length d ≤ length a.output.now = omega arith in
     let copied-after : copied (set a.output.now 0 (first_octet a.size a.kind (length m) a.index)) 1 m from count ≡ output_after true d a.output.now =

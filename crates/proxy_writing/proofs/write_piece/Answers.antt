@@ -13,9 +13,8 @@ last_piece-requires c = cut-asked _ _ (sym c.is_cut.ensures ∙ c.if-is_cut.true
 
 pub returns-then-last_piece-index : goal.returns-then-last_piece-index
 returns-then-last_piece-index c =
-    let d = c in
     output-wrong _ _ _
-    (simp (← d.is_cut.ensures, d.if-is_cut.true, le-leb _ _ c.if-kind-gt3.false, ← c.last_piece.ensures, lt-leb _ _ c.if-last_piece-index.true))
+    (simp (← c.is_cut.ensures, c.if-is_cut.true, le-leb _ _ c.if-kind-gt3.false, ← c.last_piece.ensures, lt-leb _ _ c.if-last_piece-index.true))
 
 pub put_piece-requires : goal.put_piece-requires
 put_piece-requires c =
@@ -27,12 +26,11 @@ put_piece-requires c =
 
 pub returns-then-is_cut : goal.returns-then-is_cut
 returns-then-is_cut c =
-    let d = c in
     simp (
-      ← d.is_cut.ensures,
-      d.if-is_cut.true,
-      le-leb _ _ d.if-kind-gt3.false,
-      ← d.last_piece.ensures,
+      ← c.is_cut.ensures,
+      c.if-is_cut.true,
+      le-leb _ _ c.if-kind-gt3.false,
+      ← c.last_piece.ensures,
       le-leb _ _ c.if-last_piece-index.false,
     )
     c.put_piece.ensures

@@ -15,22 +15,20 @@ slice_bounds-write_line-end g c =
 
 pub returns-in_default : goal.returns-in_default
 returns-in_default g c =
-    let d = c in
-    let a = d.args in
+    let a = c.args in
     let room = c.make_room-streams in
     let w = c.write_line-answer in
-    absurd (text-never a.progress.number (held_text a.progress a.line.now) a.output.now room.result.waiting (room.ensures.2 d.requires.1)
+    absurd (text-never a.progress.number (held_text a.progress a.line.now) a.output.now room.result.waiting (room.ensures.2 c.requires.1)
     (sym w.ensures.0 ∙ c.in_default.is))
 
 pub returns : goal.returns
 returns g c =
-    let d = c in
-    let a = d.args in
+    let a = c.args in
     let room = c.make_room-streams in
     let w = c.write_line-answer in
     let held = held_text a.progress a.line.now in
     let at = room.result.waiting in
-    let fits = room.ensures.2 d.requires.1 in
+    let fits = room.ensures.2 c.requires.1 in
     let counts = text-counts a.progress.number held a.output.now at fits (sym w.ensures.0 ∙ c.in-Text.is) in
     let text = line_text a.progress.number held in
     rw (w.ensures.1, text-output a.progress.number held a.output.now at fits)

@@ -15,15 +15,13 @@ loop-turns-init g c = (refl, refl, refl, omega arith, runs-start c.start.result 
 
 pub loop-turns-preserved-then-streams : goal.loop-turns-preserved-then-streams
 loop-turns-preserved-then-streams g c =
-    let d = c in
     let t = c.take_turn-progress.ensures in
-    (search rules, search rules, search rules, turn-few t, runs_on program _ d.loop-turns.invariant.4 (omega arith) _ t c.if-streams.true)
+    (search rules, search rules, search rules, turn-few t, runs_on program _ c.loop-turns.invariant.4 (omega arith) _ t c.if-streams.true)
 
 pub loop-turns-preserved : goal.loop-turns-preserved
 loop-turns-preserved g c =
-    let d = c in
     let t = c.take_turn-progress.ensures in
-    (search rules, search rules, search rules, turn-few t, runs-out program _ d.loop-turns.invariant.4 (omega arith) _ t c.if-streams.false)
+    (search rules, search rules, search rules, turn-few t, runs-out program _ c.loop-turns.invariant.4 (omega arith) _ t c.if-streams.false)
 
 pub returns : goal.returns
 returns g c =

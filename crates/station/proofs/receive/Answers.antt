@@ -16,40 +16,34 @@ returns-then-area-ne-AREA_LENGTH c =
 
 pub offset_bounds-links-place : goal.offset_bounds-links-place
 offset_bounds-links-place c =
-    let d = c in
-    let b = place-below d.args.links (search rules) _ _ d.find_link-found.ensures _ d.place_of-place.ensures in
+    let b = place-below c.args.links (search rules) _ _ c.find_link-found.ensures _ c.place_of-place.ensures in
     search rules
 
 pub bounds-links-place : goal.bounds-links-place
 bounds-links-place c =
-    let d = c in
-    place-below d.args.links (search rules) _ _ d.find_link-found.ensures _ d.place_of-place.ensures
+    place-below c.args.links (search rules) _ _ c.find_link-found.ensures _ c.place_of-place.ensures
 
 pub step_at-stepped-requires : goal.step_at-stepped-requires
 step_at-stepped-requires c =
-    let d = c in
-    (place-below d.args.links (search rules) _ _ d.find_link-found.ensures _ d.place_of-place.ensures, d.if-area-ne-AREA_LENGTH.false)
+    (place-below c.args.links (search rules) _ _ c.find_link-found.ensures _ c.place_of-place.ensures, c.if-area-ne-AREA_LENGTH.false)
 
 pub offset_bounds-after-place : goal.offset_bounds-after-place
 offset_bounds-after-place c =
-    let d = c in
-    let b = place-below d.args.links (search rules) _ _ d.find_link-found.ensures _ d.place_of-place.ensures in
+    let b = place-below c.args.links (search rules) _ _ c.find_link-found.ensures _ c.place_of-place.ensures in
     search rules
 
 pub bounds-after-place : goal.bounds-after-place
 bounds-after-place c =
-    let d = c in
-    place-below d.args.links (search rules) _ _ d.find_link-found.ensures _ d.place_of-place.ensures
+    place-below c.args.links (search rules) _ _ c.find_link-found.ensures _ c.place_of-place.ensures
 
 pub returns-then-is_good : goal.returns-then-is_good
 returns-then-is_good c =
-    let d = c in
-    let a = d.args in
+    let a = c.args in
     let n : length a.links ≡ 8 = search rules in
-    let f : find a.links (link_id a.frame.now) ≡ d.find_link-found.result = ap (find a.links) (sym d.read32.ensures) ∙ sym d.find_link-found.ensures in
-    let e = received-found a.links a.area.now a.frame.now n d.if-area-ne-AREA_LENGTH.false (sym d.is_good.ensures ∙ d.if-is_good.true) d.find_link-found.result f in
+    let f : find a.links (link_id a.frame.now) ≡ c.find_link-found.result = ap (find a.links) (sym c.read32.ensures) ∙ sym c.find_link-found.ensures in
+    let e = received-found a.links a.area.now a.frame.now n c.if-area-ne-AREA_LENGTH.false (sym c.is_good.ensures ∙ c.if-is_good.true) c.find_link-found.result f in
     let st = c.step_at-stepped in
-    (rw (e, ← d.place_of-place.ensures, st.ensures.0), rw (e, ← d.place_of-place.ensures) st.ensures.1)
+    (rw (e, ← c.place_of-place.ensures, st.ensures.0), rw (e, ← c.place_of-place.ensures) st.ensures.1)
 
 pub returns : goal.returns
 returns c =

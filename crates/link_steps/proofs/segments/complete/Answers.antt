@@ -9,24 +9,22 @@ slice_bounds-check_octet-end c = sym (length-take-le c.args.message.length c.arg
 
 pub returns-then-check_octet-message : goal.returns-then-check_octet-message
 returns-then-check_octet-message c =
-    let d = c in
     simp (
       c.after_segment.ensures,
-      ← d.last_segment.ensures,
-      ← d.all_marked.ensures,
-      d.if-all_marked.true,
+      ← c.last_segment.ensures,
+      ← c.all_marked.ensures,
+      c.if-all_marked.true,
       ← c.check_octet.ensures,
       eq-eqb _ _ c.if-check_octet-message.true,
     )
 
 pub returns-then-all_marked : goal.returns-then-all_marked
 returns-then-all_marked c =
-    let d = c in
     simp (
       c.after_segment-then-all_marked.ensures,
-      ← d.last_segment.ensures,
-      ← d.all_marked.ensures,
-      d.if-all_marked.true,
+      ← c.last_segment.ensures,
+      ← c.all_marked.ensures,
+      c.if-all_marked.true,
       ← c.check_octet.ensures,
       ne_eqb _ _ c.if-check_octet-message.false,
     )

@@ -17,8 +17,7 @@ pub returns-then-octet_at-last_segment : goal.returns-then-octet_at-last_segment
 unfolding is_start
 returns-then-octet_at-last_segment c =
     let in-range : is_length c.read16-length.result ≡ true = sym c.is_length.ensures ∙ c.if-not-is_length.false in
-    let d = c in
-    simp (← d.read16-length.ensures, in-range, ← c.last_segment.ensures, ← c.octet_at.ensures, ne_eqb _ _ c.if-octet_at-last_segment.true)
+    simp (← c.read16-length.ensures, in-range, ← c.last_segment.ensures, ← c.octet_at.ensures, ne_eqb _ _ c.if-octet_at-last_segment.true)
 
 pub returns-then-length-lt20 : goal.returns-then-length-lt20
 unfolding is_start

@@ -23,13 +23,12 @@ returns-then-opcode-eq1 c = search (tests, ← c.octet_at-opcode.ensures)
 pub returns-then-is_close : goal.returns-then-is_close
 unfolding control_of
 returns-then-is_close c =
-    let d = c in
     simp (
-      ← d.octet_at-opcode.ensures,
-      ← d.read32-id.ensures,
+      ← c.octet_at-opcode.ensures,
+      ← c.read32-id.ensures,
       ← c.octet_at.ensures,
-      ne_eqb _ _ d.if-opcode-eq0.false,
-      ne_eqb _ _ d.if-opcode-eq1.false,
+      ne_eqb _ _ c.if-opcode-eq0.false,
+      ne_eqb _ _ c.if-opcode-eq1.false,
       eq-eqb _ _ c.if-opcode-eq2.true,
       sym c.is_close.ensures ∙ c.if-is_close.true,
     )
@@ -37,11 +36,10 @@ returns-then-is_close c =
 pub returns-then-opcode-eq2 : goal.returns-then-opcode-eq2
 unfolding control_of
 returns-then-opcode-eq2 c =
-    let d = c in
     simp (
-      ← d.octet_at-opcode.ensures,
-      ne_eqb _ _ d.if-opcode-eq0.false,
-      ne_eqb _ _ d.if-opcode-eq1.false,
+      ← c.octet_at-opcode.ensures,
+      ne_eqb _ _ c.if-opcode-eq0.false,
+      ne_eqb _ _ c.if-opcode-eq1.false,
       eq-eqb _ _ c.if-opcode-eq2.true,
       sym c.is_close.ensures ∙ c.if-is_close.false,
     )

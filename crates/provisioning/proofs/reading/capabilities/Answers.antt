@@ -3,14 +3,13 @@ use Rattle.provisioning.proofs.reading.capabilities.Goals as goal
 
 pub returns : goal.returns
 returns c =
-    let d = c in
     simp (
       c.read16-3.ensures,
       c.octet_at-5.ensures,
       c.read16-2.ensures,
-      d.octet_at-4.ensures,
-      d.octet_at-3.ensures,
-      d.octet_at-2.ensures,
-      d.read16.ensures,
-      d.octet_at.ensures,
+      c.octet_at-4.ensures,
+      c.octet_at-3.ensures,
+      c.octet_at-2.ensures,
+      c.read16.ensures,
+      c.octet_at.ensures,
     )

@@ -19,14 +19,13 @@ returns-then-kind-ge10 c = search tests
 pub returns-then-message-parameter_length : goal.returns-then-message-parameter_length
 unfolding message_read
 returns-then-message-parameter_length c =
-    let d = c in
     simp (
       c.judge.ensures,
       c.message_of.ensures,
-      ne_eqb _ _ d.if-message-eq0.false,
-      lt-leb _ _ d.if-kind-ge64.false,
-      lt-leb _ _ d.if-kind-ge10.false,
-      ← d.parameter_length.ensures.0,
+      ne_eqb _ _ c.if-message-eq0.false,
+      lt-leb _ _ c.if-kind-ge64.false,
+      lt-leb _ _ c.if-kind-ge10.false,
+      ← c.parameter_length.ensures.0,
       eq-eqb _ _ c.if-message-parameter_length.true,
     )
 
