@@ -1,32 +1,23 @@
--- The loop's invariant: the output has the first j octets at its start (`paste`); `octets-turn` is its step.
 use Prim.Native.Nat.{◌+◌, ◌*◌}
 use lib.ListN.{length-set}
-use lib.Seq.{paste-zero}
-use mathlib.Core.Path.{refl, ◌∙◌}
+use mathlib.Core.Path.{◌∙◌}
 use native.Mathlib.Omega.{arith}
 use Rattle.hexadecimal.proofs.Laws.{length-octets, digit_at, octets-turn, written}
 use Rattle.hexadecimal.specs.Hex.{octets_of}
 use Rattle.hexadecimal.proofs.write_octets.Goals as goal
 
-pub loop-j-init : goal.loop-j-init
-loop-j-init c =
-    let a = c.args in
-    (omega arith, refl, paste-zero a.output.now 0 (octets_of a.text.now))
-
 pub octet_of-requires : goal.octet_of-requires
 octet_of-requires c =
     let l = c.loop-j in
-    let s = c in
-    let t = s.args.text.now in
-    (digit_at t (2 * l.j) s.requires.0 (omega arith), digit_at t (2 * l.j + 1) s.requires.0 (omega arith))
+    let t = c.args.text.now in
+    (digit_at t (2 * l.j) c.requires.0 (omega arith), digit_at t (2 * l.j + 1) c.requires.0 (omega arith))
 
 pub loop-j-preserved : goal.loop-j-preserved
 loop-j-preserved c =
-    let l = c.loop-j in
-    let s = c in (
+    let l = c.loop-j in (
       omega arith,
       simp length-set l.invariant.1,
-      rw (l.invariant.2, c.octet_of.ensures) (octets-turn s.args.output.now s.args.text.now l.j (omega arith) s.requires.1),
+      rw (l.invariant.2, c.octet_of.ensures) (octets-turn c.args.output.now c.args.text.now l.j (omega arith) c.requires.1),
     )
 
 pub returns : goal.returns

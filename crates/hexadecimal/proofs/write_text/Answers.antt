@@ -1,29 +1,18 @@
--- The loop's invariant: the output has the first 2 j digits at their place (`paste`); `text-turn` is its step.
 use Prim.Native.Nat.{◌*◌}
 use lib.ListN.{length-set}
-use lib.Seq.{paste-zero}
-use mathlib.Core.Path.{refl, ◌∙◌}
+use mathlib.Core.Path.{◌∙◌}
 use native.Mathlib.Omega.{arith}
 use Rattle.hexadecimal.proofs.Laws.{length-text, text-turn, written}
 use Rattle.hexadecimal.specs.Hex.{text_of}
 use Rattle.hexadecimal.proofs.write_text.Goals as goal
 
-pub loop-j-init : goal.loop-j-init
-loop-j-init c =
-    let a = c.args in
-    (omega arith, refl, paste-zero a.output.now a.at (text_of a.octets.now))
-
-pub bounds-output-at-in-loop-j : goal.bounds-output-at-in-loop-j
-bounds-output-at-in-loop-j c = simp length-set (omega arith)
-
 pub loop-j-preserved : goal.loop-j-preserved
 loop-j-preserved c =
-    let l = c.loop-j in
-    let s = c in (
+    let l = c.loop-j in (
       omega arith,
       simp length-set l.invariant.1,
       rw (l.invariant.2, c.digit.ensures, c.digit-in-loop-j.ensures)
-          (text-turn s.args.output.now s.args.octets.now s.args.at l.j (omega arith) s.requires),
+          (text-turn c.args.output.now c.args.octets.now c.args.at l.j (omega arith) c.requires),
     )
 
 pub returns : goal.returns
