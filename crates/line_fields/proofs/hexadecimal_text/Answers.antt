@@ -10,12 +10,11 @@ use Rattle.line_fields.proofs.hexadecimal_text.Goals as goal
 
 pub returns : goal.returns
 returns c =
-    let s = c in
-    let a = s.args in
+    let a = c.args in
     let last = drop (4 - a.count) (octets32 a.value) in
     let octets = take (4 - (4 - a.count)) last in
-    let whole : octets ≡ last = take_all (4 - (4 - a.count)) last (omega (arith, s.requires, length-drop (4 - a.count) (octets32 a.value))) in
-    let few : length octets ≡ a.count = ap length whole ∙ length-drop (4 - a.count) (octets32 a.value) ∙ omega (arith, s.requires) in
+    let whole : octets ≡ last = take_all (4 - (4 - a.count)) last (omega (arith, c.requires, length-drop (4 - a.count) (octets32 a.value))) in
+    let few : length octets ≡ a.count = ap length whole ∙ length-drop (4 - a.count) (octets32 a.value) ∙ omega (arith, c.requires) in
     let shown = rw few at (hexadecimal-shown octets (omega (arith, few))) in
     let encoded = rw c.four_octets-octets.ensures at c.encode.ensures.1 in
-    (ap (take (2 + 2 * a.count)) encoded ∙ shown ∙ ap hexadecimal_of whole, omega (arith, s.requires))
+    (ap (take (2 + 2 * a.count)) encoded ∙ shown ∙ ap hexadecimal_of whole, omega (arith, c.requires))

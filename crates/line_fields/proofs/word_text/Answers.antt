@@ -8,6 +8,5 @@ use Rattle.line_fields.proofs.word_text.Goals as goal
 
 pub returns : goal.returns
 returns c =
-    let s = c in
-    let n = s.args.place in
-    (ap (take n.length) c.copy.ensures.1 ∙ copied-front (replicate 20 0) words (14 * n.row) n.length (omega (arith, s.requires)) (omega (arith, s.requires)), omega (arith, s.requires))
+    let n = c.args.place in
+    (ap (take n.length) c.copy.ensures.1 ∙ copied-front (replicate 20 0) words (14 * n.row) n.length (omega (arith, c.requires)) (omega (arith, c.requires)), omega (arith, c.requires))

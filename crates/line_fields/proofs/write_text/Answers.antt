@@ -9,12 +9,10 @@ pub returns-then-copy : goal.returns-then-copy
 unfolding written
 returns-then-copy c =
     let fits : is_written true c.args.text.now c.args.output.now ≡ c.copy.result = sym (copy-fits c.args.text.now c.args.output.now) ∙ sym c.copy.ensures.0 in
-    let p = c in
-    (rw (fits, c.if-copy.true), p.copy.ensures.1 ∙ copy_writes _ _)
+    (rw (fits, c.if-copy.true), c.copy.ensures.1 ∙ copy_writes _ _)
 
 pub returns-else-copy : goal.returns-else-copy
 unfolding written
 returns-else-copy c =
     let fits : is_written true c.args.text.now c.args.output.now ≡ c.copy.result = sym (copy-fits c.args.text.now c.args.output.now) ∙ sym c.copy.ensures.0 in
-    let p = c in
-    (rw (fits, c.if-copy.false), p.copy.ensures.1 ∙ copy_writes _ _)
+    (rw (fits, c.if-copy.false), c.copy.ensures.1 ∙ copy_writes _ _)
