@@ -8,22 +8,17 @@ slice_bounds-decode-end c = omega (arith, begun-so c.args.line.now c.requires)
 
 pub returns-in_default : goal.returns-in_default
 returns-in_default c =
-    let s = c in
-    let same = rw (all_eight s.args.line.now s.requires) at c.decode.ensures.0 in
-    sym (opening-wrong s.args.line.now s.requires
+    let same = rw (all_eight c.args.line.now c.requires) at c.decode.ensures.0 in
+    sym (opening-wrong c.args.line.now c.requires
     (λ n e. c.in_default.not-Octets n (same ∙ e)))
-
-pub bounds-line-0 : goal.bounds-line-0
-bounds-line-0 c = omega (arith, begun-so c.args.line.now c.requires)
 
 pub overflow_sub-result : goal.overflow_sub-result
 overflow_sub-result c = omega (arith, begun-so c.args.line.now c.requires)
 
 pub returns : goal.returns
 returns c =
-    let s = c in
     let k = c.decode in
-    let digits = all_eight s.args.line.now s.requires in
+    let digits = all_eight c.args.line.now c.requires in
     let told = rw digits at (sym k.ensures.0 ∙ c.in-Octets.is) in
     let out = rw digits at k.ensures.1 in
-    rw (opening-digits s.args.line.now s.requires told, ← out, ← c.read32.ensures)
+    rw (opening-digits c.args.line.now c.requires told, ← out, ← c.read32.ensures)
