@@ -1,14 +1,12 @@
 -- Laws of the channel's line: the fields between its spaces, and its numbers.
-use Prim.Native.Nat.{ℕ, ◌+◌, ◌-◌, ◌<◌, ◌≤◌}
+use Prim.Native.Nat.{ℕ, ◌+◌, ◌-◌, ◌≤◌}
 use native.Mathlib.Omega.{arith}
 use mathlib.Core.Bool.{false}
 use mathlib.Core.List.{List, [], ◌∷◌}
 use mathlib.Core.Path.{◌≡◌, refl, ap, ◌∙◌}
 use lib.Dec.{eqb}
-use lib.ListN.{length, take, drop, get_or, length-drop, drop_of_length-le}
+use lib.ListN.{length, take, drop, length-drop, drop_of_length-le}
 use lib.Seq.{take_all}
-use borrow.Author.Tests.{eq-eqb, ne_eqb}
-use Rattle.octets.proofs.Loops.{left_here}
 use Rattle.octets.proofs.Tests.{cases}
 use Rattle.rehearsal_lines.specs.Lines.{is_decimal, decimal_read, field, behind, rates_of, settings_of}
 use Rattle.rehearsal_lines.specs.declared.Line.TheVariants.{Channel, Other}
@@ -18,17 +16,6 @@ use Rattle.rehearsal_lines.proofs.Numbers.{told-nothing, told-number}
 -- the characters before place i all stand in the first field
 abbrev pub Counted : List ℕ → ℕ → Type 0
 Counted text i = i + length (field (drop i text)) ≡ length (field text)
-
-module _ (text : List ℕ) (i : ℕ) (counted : Counted text i) where
-  module _ (h : i < length text) where
-    pub field-ends : get_or text i 0 ≡ 32 → i ≡ length (field text)
-    field-ends e = omega (arith, rw (left_here text i 0 h, eq-eqb (get_or text i 0) 32 e) at counted)
-
-    pub field-on : (get_or text i 0 ≡ 32 → ⊥) → Counted text (i + 1)
-    field-on e = omega (arith, rw (left_here text i 0 h, ne_eqb (get_or text i 0) 32 e) at counted)
-
-  pub field-all : length text ≤ i → i ≡ length (field text)
-  field-all h = omega (arith, rw (drop_of_length-le text h) at counted)
 
 -- the first field is a front
 field-front : (text : List ℕ) → take (length (field text)) text ≡ field text

@@ -7,7 +7,7 @@ use mathlib.Core.Path.{◌≡◌, refl, sym}
 use lib.Dec.{leb, eqb}
 use lib.ListN.{length, drop, get_or}
 use borrow.Author.Tests.{le-leb, lt-leb, leb-true, eqb-true, eqb-false}
-use Rattle.octets.proofs.Loops.{left_here, goes_on, stops, nothing_left}
+use Rattle.octets.proofs.Loops.{left_here, stops, nothing_left}
 use Rattle.octets.proofs.Tests.{cases, both_hold}
 use Rattle.line_fields.specs.Lines.{digits_up_to, decimal_of}
 use Rattle.rehearsal_lines.specs.Lines.{is_digit, all_decimal, value_from, is_decimal, decimal_read}
@@ -65,9 +65,6 @@ module _ (text : List ℕ) (value i : ℕ) (left : Left text value i) where
 
     pub next-too-much : (most : ℕ) → most < next → Nothing ≡ decimal_read text most
     next-too-much most k = too_much text most (omega (arith, grows next (drop (i + 1) text), next-left))
-
-    pub right-digit : is_digit (get_or text i 0) ≡ true → Left text next (i + 1)
-    right-digit e = (goes_on all_decimal (λ c t. is_digit c) (λ c t. refl) text i 0 left.0 h refl e, next-left)
 
   pub all_read : (most : ℕ) → 1 ≤ length text → length text ≤ i → value ≤ most → Number value ≡ decimal_read text most
   all_read most some h few =

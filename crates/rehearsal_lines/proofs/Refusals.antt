@@ -22,7 +22,7 @@ module _ (c : Characters) (number : ℕ) (twenty : length c.text ≡ 20) (holds 
   digits_long : c.length ≡ length (decimal_of number)
   digits_long = holds-long c (decimal_of number) twenty holds
 
-  pub refused-long : length (refused_line number) ≡ 11 + c.length
+  refused-long : length (refused_line number) ≡ 11 + c.length
   unfolding refused_line
   refused-long = omega (arith, length-append word (decimal_of number ++ (10 ∷ [])), length-append (decimal_of number) (10 ∷ []), digits_long)
 

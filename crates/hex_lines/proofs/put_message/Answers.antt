@@ -1,4 +1,3 @@
--- The loop's invariant: the output has the first lines at its start, and `at` is their length; `lines-turn` is its step.
 use Prim.Native.Nat.{suc, ◌+◌, ◌*◌, ◌≤◌}
 use lib.ListN.{length}
 use mathlib.Core.Path.{◌≡◌, refl, sym, ap, ◌∙◌}

@@ -1,3 +1,4 @@
+-- The loop's invariant: the output has the first lines at its start, and `at` is their length; `lines-turn` is its step.
 use Prim.Native.Nat.{◌+◌, ◌-◌, ◌≤◌}
 use lib.ListN.{length}
 use mathlib.Core.Path.{◌≡◌}

@@ -40,11 +40,6 @@ slice_bounds-put_message-end c =
     let s = (goal.at.slice_bounds-put_message-end c).In-Octets in
     rw (front s) (counted s).0
 
-pub put_message-requires : goal.put_message-requires
-put_message-requires c =
-    let s = (goal.at.put_message-requires c).In-Octets in
-    rw (front s) (omega (arith, counted s), omega (arith, counted s))
-
 pub returns : goal.returns
 unfolding line_text line_next written output_after
 returns c =

@@ -1,3 +1,4 @@
+-- The loop's invariant: what is left of the text decides.
 use Prim.Native.Nat.{◌≤◌, ◌-◌}
 use lib.ListN.{length, drop}
 use mathlib.Core.Path.{◌≡◌}

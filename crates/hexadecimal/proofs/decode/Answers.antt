@@ -1,7 +1,6 @@
 -- The definition's tests in the order of the code; `digits` and `no-digits` say what `all_digits` found.
 use mathlib.Core.Bool.{true, false}
 use mathlib.Core.Path.{◌≡◌, sym, ◌∙◌}
-use native.Mathlib.Omega.{arith}
 use Rattle.hexadecimal.specs.Hex.{all_digits, decoded_of, decoded_output}
 use Rattle.octets.proofs.Tests.{tests}
 use Rattle.hexadecimal.proofs.decode.Goals as goal
@@ -21,11 +20,6 @@ unfolding decoded_of decoded_output
 returns-then-output-text c =
     let digits : all_digits c.args.text.now ≡ true = sym c.all_digits.ensures ∙ c.if-not-all_digits.false in
     search (tests, digits)
-
-pub write_octets-requires : goal.write_octets-requires
-write_octets-requires c =
-    let digits : all_digits c.args.text.now ≡ true = sym c.all_digits.ensures ∙ c.if-not-all_digits.false in
-    (digits, omega arith)
 
 pub returns : goal.returns
 unfolding decoded_of decoded_output

@@ -1,5 +1,3 @@
-use borrow.Author.Rules.{rules}
-use lib.ListN.{length-set}
 use native.Mathlib.Omega.{arith}
 use Rattle.hexadecimal.proofs.Lines.{line-short, line-count, line-put}
 use Rattle.hexadecimal.proofs.write_line.Goals as goal
@@ -18,9 +16,6 @@ pub returns-then-room-octets : goal.returns-then-room-octets
 returns-then-room-octets c =
     let a = c.args in
     line-short a.head.now a.octets.now a.output.now (omega arith)
-
-pub shape_of-output : goal.shape_of-output
-shape_of-output c = simp length-set (search rules)
 
 pub returns : goal.returns
 returns c =

@@ -1,17 +1,10 @@
--- The loop's invariant: the output has the first j octets at its start (`paste`); `octets-turn` is its step.
 use Prim.Native.Nat.{◌+◌, ◌*◌}
 use lib.ListN.{length-set}
-use lib.Seq.{paste-zero}
-use mathlib.Core.Path.{refl, ◌∙◌}
+use mathlib.Core.Path.{◌∙◌}
 use native.Mathlib.Omega.{arith}
 use Rattle.hexadecimal.proofs.Laws.{length-octets, digit_at, octets-turn, written}
 use Rattle.hexadecimal.specs.Hex.{octets_of}
 use Rattle.hexadecimal.proofs.write_octets.Goals as goal
-
-pub loop-j-init : goal.loop-j-init
-loop-j-init c =
-    let a = c.args in
-    (omega arith, refl, paste-zero a.output.now 0 (octets_of a.text.now))
 
 pub octet_of-requires : goal.octet_of-requires
 octet_of-requires c =

@@ -1,3 +1,4 @@
+-- The loop's invariant: the output has the first j octets at its start (`paste`); `octets-turn` is its step.
 use Prim.Native.Nat.{◌≤◌, ◌-◌, ◌/◌}
 use lib.ListN.{length}
 use lib.Seq.{paste}

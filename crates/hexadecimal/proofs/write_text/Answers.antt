@@ -1,20 +1,10 @@
--- The loop's invariant: the output has the first 2 j digits at their place (`paste`); `text-turn` is its step.
 use Prim.Native.Nat.{◌*◌}
 use lib.ListN.{length-set}
-use lib.Seq.{paste-zero}
-use mathlib.Core.Path.{refl, ◌∙◌}
+use mathlib.Core.Path.{◌∙◌}
 use native.Mathlib.Omega.{arith}
 use Rattle.hexadecimal.proofs.Laws.{length-text, text-turn, written}
 use Rattle.hexadecimal.specs.Hex.{text_of}
 use Rattle.hexadecimal.proofs.write_text.Goals as goal
-
-pub loop-j-init : goal.loop-j-init
-loop-j-init c =
-    let a = c.args in
-    (omega arith, refl, paste-zero a.output.now a.at (text_of a.octets.now))
-
-pub bounds-output-at-in-loop-j : goal.bounds-output-at-in-loop-j
-bounds-output-at-in-loop-j c = simp length-set (omega arith)
 
 pub loop-j-preserved : goal.loop-j-preserved
 loop-j-preserved c =

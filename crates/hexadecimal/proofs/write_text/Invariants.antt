@@ -1,3 +1,4 @@
+-- The loop's invariant: the output has the first 2 j digits at their place (`paste`); `text-turn` is its step.
 use Prim.Native.Nat.{◌≤◌, ◌-◌, ◌*◌}
 use lib.ListN.{length}
 use lib.Seq.{paste}

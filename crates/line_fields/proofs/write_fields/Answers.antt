@@ -1,25 +1,14 @@
--- The loop's invariant: with the texts that are left behind what is written, the line is whole (`Begun`); `begun-next` is its step.
 use Prim.Native.Nat.{◌+◌}
 use mathlib.Core.List.{[], ◌∷◌, ◌++◌, map}
 use lib.ListN.{length, get_or, length-append}
 use lib.Seq.{length-take-le}
-use mathlib.Core.Path.{◌≡◌, refl, sym, ◌∙◌}
+use mathlib.Core.Path.{◌≡◌, ◌∙◌}
 use native.Mathlib.Omega.{arith}
-use Rattle.line_fields.proofs.Laws.{text_at, texts-long, begun, begun-next, begun_all, holds-long}
+use Rattle.line_fields.proofs.Laws.{text_at, texts-long, begun-next, begun_all, holds-long}
 use Rattle.line_fields.specs.Lines.{field_text}
 use Rattle.line_fields.specs.declared.Field.TheVariants.{Empty}
 use borrow.Author.Rules.{rules}
 use Rattle.line_fields.proofs.write_fields.Goals as goal
-
-pub loop-i-init : goal.loop-i-init
-loop-i-init c =
-    let n : length c.args.fields ≡ 15 = search rules in
-    (n, omega arith, refl, omega arith, begun _ _)
-
-pub put_ended-at-requires : goal.put_ended-at-requires
-put_ended-at-requires c =
-    let l = c.loop-i in
-    (omega (arith, l.invariant), c.field_text.ensures.1)
 
 pub loop-i-preserved : goal.loop-i-preserved
 loop-i-preserved c =
@@ -43,11 +32,6 @@ loop-i-preserved c =
       begun-next ts _ l.line l.at l.i w.result w.new.line (omega (arith, n))
           (rw (here, n, ← end.ensures) next) (rw (here, n, ← end.ensures) after) (omega (arith, w.ensures.0, f.ensures.1, l.invariant)) l.invariant.4,
     )
-
-pub slice_bounds-write_text-end : goal.slice_bounds-write_text-end
-slice_bounds-write_text-end c =
-    let l = c.loop-i in
-    sym (length-take-le l.at l.line (omega (arith, l.invariant)))
 
 pub returns : goal.returns
 returns c =

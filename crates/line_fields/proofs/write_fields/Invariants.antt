@@ -1,3 +1,4 @@
+-- The loop's invariant: with the texts that are left behind what is written, the line is whole (`Begun`); `begun-next` is its step.
 use Prim.Native.Nat.{◌*◌, ◌-◌, ◌≤◌}
 use mathlib.Core.List.{map}
 use lib.ListN.{length}

@@ -3,7 +3,6 @@ use mathlib.Core.List.{List}
 use mathlib.Core.Path.{◌≡◌, sym, ap, ◌∙◌}
 use Prim.Native.Nat.{ℕ}
 use lib.ListN.{drop}
-use lib.Seq.{length-take-le}
 use Rattle.hexadecimal.specs.Hex.{decoded_of, decoded_output}
 use Rattle.rehearsal_lines.proofs.Channel.{all-behind}
 use Rattle.rehearsal_lines.proofs.Laws.{too_short, too_long, no-space, no-opening, no-message, a-module}
@@ -28,9 +27,6 @@ returns-then-line-gt-LONGEST c = too_long c.args.line.now _ (omega arith)
 
 pub returns-then-line-ne32 : goal.returns-then-line-ne32
 returns-then-line-ne32 c = no-space _ _ c.if-line-ne32.true
-
-pub slice_bounds-read_opening-end : goal.slice_bounds-read_opening-end
-slice_bounds-read_opening-end c = sym (length-take-le 10 c.args.line.now (omega arith))
 
 pub returns-in_default : goal.returns-in_default
 returns-in_default c = no-opening _ _ (sym c.read_opening.ensures ∙ c.in_default.is)

@@ -1,13 +1,6 @@
 use mathlib.Core.Path.{refl, sym, ◌∙◌}
-use native.Mathlib.Omega.{arith}
 use Rattle.script.specs.Script.{arguments_read, arguments_after}
 use Rattle.script.proofs.read_arguments.Goals as goal
-
-pub slice_bounds-decode-count : goal.slice_bounds-decode-count
-slice_bounds-decode-count c = omega (arith, c.is_line.ensures.1 c.if-is_line.true)
-
-pub slice_bounds-decode-start : goal.slice_bounds-decode-start
-slice_bounds-decode-start c = omega (arith, c.is_line.ensures.1 c.if-is_line.true)
 
 pub returns-then-is_line : goal.returns-then-is_line
 unfolding arguments_read arguments_after

@@ -12,9 +12,6 @@ returns-in_default c =
     sym (opening-wrong c.args.line.now c.requires
     (λ n e. c.in_default.not-Octets n (same ∙ e)))
 
-pub bounds-line-0 : goal.bounds-line-0
-bounds-line-0 c = omega (arith, begun-so c.args.line.now c.requires)
-
 pub overflow_sub-result : goal.overflow_sub-result
 overflow_sub-result c = omega (arith, begun-so c.args.line.now c.requires)
 

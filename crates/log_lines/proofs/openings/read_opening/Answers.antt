@@ -1,9 +1,5 @@
-use mathlib.Core.Path.{sym, ◌∙◌}
 use Rattle.log_lines.specs.Lines.{opening_of}
 use Rattle.log_lines.proofs.openings.read_opening.Goals as goal
-
-pub read_begun-requires : goal.read_begun-requires
-read_begun-requires c = sym c.begins_opening.ensures ∙ c.if-begins_opening.true
 
 pub returns : goal.returns
 unfolding opening_of

@@ -1,17 +1,7 @@
-use borrow.Author.Tests.{leb-true}
-use native.Mathlib.Omega.{arith}
 use mathlib.Core.Path.{sym, ◌∙◌}
-use lib.Dec.{leb}
-use Rattle.octets.proofs.Tests.{both_hold}
 use Rattle.octets.proofs.Writing.{output-wrong}
 use Rattle.hexadecimal.specs.Hex.{digit_line}
 use Rattle.log_lines.proofs.writing.write_opening.Goals as goal
-
-pub overflow_add-digit : goal.overflow_add-digit
-overflow_add-digit c =
-    let s = c.args.socket.0 in
-    let h = both_hold {a = leb 1 s} (sym c.is_one_of.ensures ∙ c.if-is_one_of.true) in
-    omega (arith, leb-true s 8 h.1)
 
 pub returns-then-is_one_of : goal.returns-then-is_one_of
 unfolding digit_line

@@ -1,10 +1,9 @@
--- The loop's invariant: what is left of the text decides as the whole text does, and the value is not too much yet.
 use native.Mathlib.Omega.{arith}
 use mathlib.Core.Bool.{true}
 use mathlib.Core.Path.{◌≡◌, sym, ◌∙◌}
 use lib.ListN.{get_or}
 use Rattle.rehearsal_lines.specs.Lines.{is_digit}
-use Rattle.rehearsal_lines.proofs.Numbers.{digit-so, no-digits, wrong-digit, next-too-much, right-digit, all_read}
+use Rattle.rehearsal_lines.proofs.Numbers.{digit-so, no-digits, wrong-digit, next-too-much, all_read}
 use Rattle.rehearsal_lines.proofs.decimals.read_decimal.Goals as goal
 use Rattle.rehearsal_lines.proofs.decimals.read_decimal.Goals.{Else-not-is_digit}
 
@@ -23,23 +22,11 @@ returns-then-not-is_digit c =
 pub overflow_sub-next : goal.overflow_sub-next
 overflow_sub-next c = omega (arith, digit-so _ (digit (goal.at.overflow_sub-next c).Else-not-is_digit))
 
-pub overflow_cast-next-in-loop-i : goal.overflow_cast-next-in-loop-i
-overflow_cast-next-in-loop-i c = omega (arith, digit-so _ (digit (goal.at.overflow_cast-next-in-loop-i c).Else-not-is_digit))
-
-pub overflow_add-next : goal.overflow_add-next
-overflow_add-next c = omega (arith, digit-so _ (digit (goal.at.overflow_add-next c).Else-not-is_digit))
-
 pub returns-then-most-next : goal.returns-then-most-next
 returns-then-most-next c =
     let a = c.args in
     let l = c.loop-i in
     next-too-much a.text.now l.value l.i l.invariant.3 (omega arith) a.most (omega arith)
-
-pub loop-i-preserved : goal.loop-i-preserved
-loop-i-preserved c =
-    let t = c.args.text.now in
-    let l = c.loop-i in
-    (omega arith, omega arith, omega arith, right-digit t l.value l.i l.invariant.3 (omega arith) (digit (goal.at.loop-i-preserved c).Else-not-is_digit))
 
 pub returns : goal.returns
 returns c =

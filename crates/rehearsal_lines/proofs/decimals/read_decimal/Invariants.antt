@@ -1,3 +1,4 @@
+-- The loop's invariant: what is left of the text decides as the whole text does, and the value is not too much yet.
 use Prim.Native.Nat.{◌≤◌, ◌-◌}
 use lib.ListN.{length}
 use Rattle.rehearsal_lines.proofs.Numbers.{Left}

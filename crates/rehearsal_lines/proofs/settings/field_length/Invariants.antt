@@ -1,3 +1,4 @@
+-- The loop's invariant: the characters before place i all stand before the first space.
 use Prim.Native.Nat.{◌≤◌, ◌-◌}
 use lib.ListN.{length}
 use Rattle.rehearsal_lines.proofs.Channel.{Counted}

@@ -1,6 +1,5 @@
 use native.Mathlib.Omega.{arith}
 use mathlib.Core.Path.{◌≡◌, sym, ◌∙◌}
-use lib.Seq.{length-take-le}
 use Rattle.rehearsal_lines.specs.Lines.{field, behind, decimal_read}
 use Rattle.rehearsal_lines.specs.declared.decimals.Decimal.TheVariants.{Number}
 use Rattle.rehearsal_lines.proofs.Channel.{cut-front, cut-behind, cut-nothing, lost-wrong, repeated-wrong, repeated-missing, rates-right}
@@ -15,9 +14,6 @@ lost c = sym (rw (cut-front _ _ c.field_length-end.ensures.0) at c.read_decimal.
 repeated : (c : In-Number-read_decimal)
     → decimal_read (behind c.args.rates.now) 100 ≡ Number c.in-Number-read_decimal.repeated
 repeated c = sym (rw (cut-behind _ _ c.field_length-end.ensures.0) at c.read_decimal-2.ensures) ∙ c.in-Number-read_decimal.is
-
-pub slice_bounds-read_decimal-end : goal.slice_bounds-read_decimal-end
-slice_bounds-read_decimal-end c = sym (length-take-le _ _ c.field_length-end.ensures.1)
 
 pub returns-in_default : goal.returns-in_default
 returns-in_default c = lost-wrong _ _ (sym (rw (cut-front _ _ c.field_length-end.ensures.0) at c.read_decimal.ensures) ∙ c.in_default.is)

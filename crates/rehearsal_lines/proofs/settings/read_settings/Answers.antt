@@ -1,5 +1,4 @@
 use mathlib.Core.Path.{◌≡◌, sym, ap, ◌∙◌}
-use lib.Seq.{length-take-le}
 use Rattle.rehearsal_lines.specs.Lines.{field, decimal_read, rates_of}
 use Rattle.rehearsal_lines.proofs.Channel.{cut-front, cut-behind, cut-nothing, seed-wrong, rates-missing, seed-right}
 use Rattle.rehearsal_lines.proofs.settings.read_settings.Goals as goal
@@ -8,9 +7,6 @@ use Rattle.rehearsal_lines.proofs.settings.read_settings.Goals.{After-read_decim
 first : (c : After-read_decimal)
     → c.read_decimal.result ≡ decimal_read (field c.args.settings.now) 4294967295
 first c = rw (cut-front _ _ c.field_length-end.ensures.0) at c.read_decimal.ensures
-
-pub slice_bounds-read_decimal-end : goal.slice_bounds-read_decimal-end
-slice_bounds-read_decimal-end c = sym (length-take-le _ _ c.field_length-end.ensures.1)
 
 pub returns-in_default : goal.returns-in_default
 returns-in_default c = seed-wrong _ (sym (first (goal.at.returns-in_default c).After-read_decimal) ∙ c.in_default.is)

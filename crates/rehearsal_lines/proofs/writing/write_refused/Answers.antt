@@ -1,10 +1,9 @@
 use Prim.Native.Nat.{◌+◌}
-use native.Mathlib.Omega.{arith}
-use mathlib.Core.Path.{◌≡◌, sym, ap, ◌∙◌}
-use lib.ListN.{length, take, set, length-set}
+use mathlib.Core.Path.{◌≡◌}
+use lib.ListN.{length, take, set}
 use borrow.Author.Rules.{rules}
 use Rattle.rehearsal_lines.specs.Lines.{refused_line}
-use Rattle.rehearsal_lines.proofs.Refusals.{put_front, refused-few, refused-long}
+use Rattle.rehearsal_lines.proofs.Refusals.{put_front, refused-few}
 use Rattle.rehearsal_lines.proofs.writing.write_refused.Goals as goal
 use Rattle.rehearsal_lines.proofs.writing.write_refused.Goals.{After-copy-2}
 
@@ -14,14 +13,6 @@ twenty c = search rules
 front : (c : After-copy-2) → let digits = c.decimal_text-digits.result in
     take (11 + digits.length) (set c.copy-2.new.to (10 + digits.length) 10) ≡ refused_line c.args.line
 front c = put_front _ _ (twenty c) c.decimal_text-digits.ensures c.copy.ensures.1 c.copy-2.ensures.1
-
-pub slice_bounds-text-end : goal.slice_bounds-text-end
-slice_bounds-text-end c = rw length-set (omega (arith, c.decimal_text-digits.ensures))
-
-pub slice_bounds-write_text-end : goal.slice_bounds-write_text-end
-slice_bounds-write_text-end c =
-    let s = (goal.at.slice_bounds-write_text-end c).After-copy-2 in
-    sym (ap length (front s) ∙ refused-long _ _ (twenty s) c.decimal_text-digits.ensures)
 
 pub returns : goal.returns
 returns c =
