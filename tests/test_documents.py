@@ -10,7 +10,7 @@ from model.rehearsed_ends import UUID_FRONT
 TOP = pathlib.Path(__file__).resolve().parent.parent
 FOLDERS = (".", "docs", "tests", "tests/samples", "bench")
 PAGES = sorted(path.relative_to(TOP).as_posix() for folder in FOLDERS for path in (TOP / folder).glob("*.md"))
-NAMED = re.compile(r"`((?:\.ci|bench|crates|docs|example|scripts|tests)/[\w./]+)`?")
+NAMED = re.compile(r"`((?:\.ci|bench|crates|docs|example|scripts|tests)/[\w./-]+)`?")
 
 
 def text_of(page):
