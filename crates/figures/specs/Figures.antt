@@ -1,7 +1,7 @@
 -- "Figures at the edges": the figures marked (P), as a single table under one claim about our definitions.
 use Rattle.std.specs.Prelude.{ℕ, Bool, true, false, ◌&&◌, List, [], ◌∷◌, ◌++◌, ◌≡◌, eqb, replicate}
-use Prim.Native.String.{String}
-use text.Mathlib.Text.{◌==◌ as same_word}
+use Prim.Native.String.{String, compare}
+use text.Mathlib.Text.{is_eq}
 use Rattle.octets.specs.Numbers.{octets32}
 use Rattle.octets.specs.Parts.{same}
 use Rattle.octets.specs.Cut.{up_to}
@@ -34,7 +34,7 @@ pub data Figure : Type 0 where
 -- whether an answer has this word and these values
 abbrev pub says : Told → String → List ℕ → Bool
 says (refused n) word values = false
-says (answered w others) word values = same_word w word && same others values
+says (answered w others) word values = is_eq (compare w word) && same others values
 
 abbrev pub same_lists : List (List ℕ) → List (List ℕ) → Bool
 same_lists [] [] = true
