@@ -9,6 +9,7 @@ use octets::Written;
 use proxy::PieceCount;
 
 // Whether a message of a length is cut by a size.
+#[tactic(auto, using(octets::proofs::Tests::tests))]
 fn is_cut(size: usize, length: usize) -> bool
     ensures { result ≡ is_cut size length }
 {
