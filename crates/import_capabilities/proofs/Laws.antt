@@ -18,7 +18,7 @@ use Rattle.lines.proofs.Laws.{behind, behind-long}
 use Rattle.import_tray.specs.Trays.{report_text, last_report}
 use Rattle.import_tray.specs.declared.Tray.{Tray}
 use Rattle.import_capabilities.specs.Turns.{RowWaits, SocketsPut}
-use Rattle.import_capabilities.specs.Turns.SocketsPut.{none, more}
+use Rattle.import_capabilities.specs.Turns.SocketsPut.{more}
 
 -- an output that nothing is written to
 pub no_text : (output : List ℕ) → (Count 0 ≡ written true [] output) × (output ≡ output_after true [] output)

@@ -6,12 +6,11 @@ use mathlib.Core.Bool.{true, false, cond}
 use mathlib.Core.List.{List, [], ◌∷◌, ◌++◌, append_assoc, append-nil}
 use mathlib.Core.Path.{◌≡◌, refl, sym, ap, ◌∙◌, subst}
 use lib.ListN.{length, replicate}
-use Rattle.octets.specs.Cut.{joined}
 use Rattle.octets.proofs.Tests.{cases}
 use Rattle.octets.proofs.Parts.{write-longer, write-front}
 use Rattle.lines.specs.Streams.{nothing_read, piece_in, with_waiting, EndWaits, is_whole}
 use Rattle.lines.specs.declared.Streams.{Streams}
-use Rattle.lines.specs.Lines.{lines_by, Reading, at_start, Follows}
+use Rattle.lines.specs.Lines.{Reading, at_start, Follows}
 use Rattle.lines.specs.Lines.Follows.{begins as Reading-begins}
 use Rattle.lines.specs.Runs.{Runs}
 use Rattle.lines.specs.Runs.Runs.{begins, goes}
@@ -22,7 +21,7 @@ use Rattle.stock_table.specs.Columns.{header_line}
 use Rattle.import_tray.specs.Trays.{report_text, last_report}
 use Rattle.import_tray.specs.declared.Tray.{Tray}
 use Rattle.import_tray.specs.declared.Step.{Step}
-use Rattle.import_log.specs.Logs.{next_number, log_of, taken, area_after, Import, report_in, after, after_all, text_from, at_first, sockets_text, last_text}
+use Rattle.import_log.specs.Logs.{next_number, log_of, Import, report_in, after, after_all, text_from, at_first, sockets_text, last_text}
 use Rattle.import_log.specs.declared.Log.{Log}
 use Rattle.held_line.specs.Held.{held_of}
 use Rattle.held_line.specs.Lines.{without_return, begun, held_text, Holds}
@@ -32,7 +31,7 @@ use Rattle.import_capabilities.specs.declared.Progress.{Progress}
 use Rattle.import_capabilities.specs.Turns.{RowWaits, whole_line, line_taken, SocketsPut, LastPut}
 use Rattle.import_capabilities.specs.Turns.SocketsPut.{none, more}
 use Rattle.import_capabilities.specs.Runs.{State, state_of, Starts, TurnTo, put_by, read_by, program, first, Ran}
-use Rattle.import_capabilities.specs.Table.{log_lines, table_of, WholeTable, ShortTable}
+use Rattle.import_capabilities.specs.Table.{WholeTable, ShortTable}
 
 -- ---- lines behind lines
 

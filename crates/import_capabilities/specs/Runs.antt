@@ -1,5 +1,5 @@
 -- A run of the program: turns from the start, for as long as pieces are found, and then the rows after the last line.
-use Rattle.std.specs.Prelude.{ℕ, ◌≤◌, true, cond, List, [], ◌≡◌, length, replicate}
+use Rattle.std.specs.Prelude.{ℕ, true, cond, List, [], ◌≡◌, length, replicate}
 use Rattle.octets.specs.Parts.{write}
 use Rattle.lines.specs.Streams.{nothing_read, with_waiting, Flushed, is_whole}
 use Rattle.lines.specs.declared.Streams.{Streams}

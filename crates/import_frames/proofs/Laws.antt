@@ -1,19 +1,18 @@
 -- Laws of a frame of the import step: where a record is found, a part of an area that may end before it, and the arms of all other cases.
 use Prim.Native.Nat.{ℕ, ◌-◌, min}
-use denote.Enum.Declared.{tag_of}
 use native.Mathlib.Omega.{arith}
 use mathlib.Core.Bool.{false}
-use mathlib.Core.List.{List, [], ◌∷◌}
-use mathlib.Core.Path.{◌≡◌, refl, sym, ap, ◌∙◌}
-use types.Run.{OneOf, miss}
+use mathlib.Core.List.{List}
+use mathlib.Core.Path.{◌≡◌, refl, sym, ◌∙◌}
 use lib.Dec.{leb}
 use lib.ListN.{length, take, drop, length-drop, drop_of_length-le}
 use lib.Seq.{take_all, take-nil}
 use borrow.Author.Tests.{leb-true, leb-false}
 use Rattle.octets.specs.Parts.{part}
 use Rattle.octets.proofs.Tests.{cases}
-use Rattle.pb_adv.specs.contracts.Parsed.{the_type as parsed-type}
 use Rattle.pb_adv.specs.declared.Parsed.{Parsed}
+use Rattle.pb_adv.specs.declared.Segment.{Segment}
+use Rattle.pb_adv.specs.declared.FrameRefusal.{FrameRefusal}
 use Rattle.pb_adv.specs.declared.Parsed.TheVariants as P
 use Rattle.transactions.specs.declared.TransactionNumber.{TransactionNumber}
 use Rattle.links.specs.Links.{find}
@@ -30,7 +29,6 @@ use Rattle.import_frames.specs.Sent.{sent_of, local_by}
 use Rattle.import_frames.specs.declared.Outcome.{Outcome}
 use Rattle.import_frames.specs.declared.Outcome.TheVariants as O
 use Rattle.import_frames.specs.declared.Asked.TheVariants as A
-use Rattle.import_frames.specs.contracts.Outcome.{the_type as outcome-type}
 
 pub found_within : (ls : List Link) (id : ℕ) → length ls ≡ 8 → (found : Found) → find ls id ≡ found → FoundWithin found
 found_within ls id n (At s) e = omega (arith, found_at ls id s e)
@@ -65,17 +63,14 @@ no-repeat (P.Ack id) h k next n = refl
 no-repeat (P.Close id reason) h k next n = absurd (k id reason refl)
 no-repeat (P.Refused r) h k next n = refl
 
--- frames that ask nothing
-abbrev pub ask_nothing : List ℕ
-ask_nothing = 1 ∷ 2 ∷ 3 ∷ []
-
-pub asks_nothing : (p : Parsed) → OneOf ask_nothing (tag_of parsed-type p) → (links : List Link) (found : Found) → A.Nothing ≡ sent_of links found p
-asks_nothing (P.Segment s) h links found = absurd (miss ask_nothing 0 tt h)
-asks_nothing (P.Acknowledgement id t) h links found = refl
-asks_nothing (P.Open id uuid) h links found = refl
-asks_nothing (P.Ack id) h links found = refl
-asks_nothing (P.Close id reason) h links found = absurd (miss ask_nothing 4 tt h)
-asks_nothing (P.Refused r) h links found = absurd (miss ask_nothing 5 tt h)
+-- frames that ask nothing: neither a segment nor a Close, and not refused
+pub asks_nothing : (p : Parsed) → ((s : Segment) → p ≡ P.Segment s → ⊥) → ((id reason : ℕ) → p ≡ P.Close id reason → ⊥) → ((r : FrameRefusal) → p ≡ P.Refused r → ⊥) → (links : List Link) (found : Found) → A.Nothing ≡ sent_of links found p
+asks_nothing (P.Segment s) h k n links found = absurd (h s refl)
+asks_nothing (P.Acknowledgement id t) h k n links found = refl
+asks_nothing (P.Open id uuid) h k n links found = refl
+asks_nothing (P.Ack id) h k n links found = refl
+asks_nothing (P.Close id reason) h k n links found = absurd (k id reason refl)
+asks_nothing (P.Refused r) h k n links found = absurd (n r refl)
 
 -- answers that are no refusals
 pub nothing-told : (o : Outcome) → ((n : ℕ) → o ≡ O.Refused n → ⊥) → (tray : Tray) (line : ℕ) (origin : Origin) → nothing_after tray ≡ local_by o tray line origin

@@ -1,11 +1,9 @@
 -- Laws of a line of a log: what the reading of its digits tells, and frames that are too long.
 use Prim.Native.Nat.{ℕ, ◌/◌, ◌≤◌, ◌<◌}
-use denote.Enum.Declared.{tag_of}
 use native.Mathlib.Omega.{arith}
 use mathlib.Core.Bool.{true, false}
-use mathlib.Core.List.{List, [], ◌∷◌}
+use mathlib.Core.List.{List, []}
 use mathlib.Core.Path.{◌≡◌, refl, ap}
-use types.Run.{OneOf, miss}
 use lib.Dec.{leb}
 use lib.ListN.{length, take}
 use borrow.Author.Tests.{le-leb, lt-leb, leb-true, leb-false}
@@ -27,7 +25,6 @@ use Rattle.links.specs.declared.Answer.{Answer}
 use Rattle.import_tray.specs.Trays.{station_of, with_stock, nothing_after}
 use Rattle.import_tray.specs.declared.Stock.TheVariants.{Missing}
 use Rattle.import_tray.specs.declared.Tray.{Tray}
-use Rattle.import_frames.specs.contracts.Outcome.{the_type as outcome-type}
 use Rattle.import_frames.specs.Heard.{heard_step, heard_area}
 use Rattle.import_frames.specs.Sent.{sent_step}
 use Rattle.import_frames.specs.declared.Outcome.{Outcome}

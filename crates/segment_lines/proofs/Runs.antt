@@ -20,7 +20,7 @@ use Rattle.lines.specs.Lines.Follows.{begins as Reading-begins}
 use Rattle.lines.proofs.Laws.{text_same, text-within, end-found, end_more}
 use Rattle.lines.proofs.Lines.{lines-found, line-stands, reads_on}
 use Rattle.segment_lines.specs.declared.Progress.{Progress}
-use Rattle.segment_lines.specs.Turns.{held_text, Turn}
+use Rattle.segment_lines.specs.Turns.{held_text}
 use Rattle.segment_lines.specs.Runs.{State, first_number, state_of, TurnTo, put_by, read_by, program, first, text_from, WholeOutput, WholeRun}
 use Rattle.lines.specs.Runs.{Runs, RunsTo}
 use Rattle.lines.specs.Runs.Runs.{begins, goes}

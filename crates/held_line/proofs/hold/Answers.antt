@@ -3,7 +3,6 @@ use mathlib.Core.Path.{refl}
 use lib.ListN.{length}
 use borrow.Author.Tests.{eq-eqb, ne_eqb, le-leb, lt-leb}
 use Rattle.held_line.specs.Held.{count_after, buffer_after}
-use borrow.Author.Rules.{rules}
 use Rattle.held_line.proofs.hold.Goals as goal
 
 pub returns-then-line-ne64 : goal.returns-then-line-ne64

@@ -1,11 +1,10 @@
-use Prim.Native.Nat.{ℕ, ◌≤◌, ◌<◌, ◌-◌}
-use lib.ListN.{length, drop, drop_of_length-le}
+use Prim.Native.Nat.{ℕ, ◌≤◌, ◌<◌}
+use lib.ListN.{length, drop_of_length-le}
 use lib.Seq.{drop-cons}
 use mathlib.Core.List.{List}
-use mathlib.Core.Path.{◌≡◌}
 use native.Mathlib.Numerals.{add-one}
 use native.Mathlib.Omega.{arith}
-use Rattle.held_line.specs.Lines.{line_of, held_character, held_piece}
+use Rattle.held_line.specs.Lines.{held_character, held_piece}
 use borrow.Author.Rules.{rules}
 use Rattle.held_line.proofs.hold_each.Goals as goal
 

@@ -1,12 +1,7 @@
-use Prim.Native.Nat.{ℕ, ◌≤◌, ◌<◌, ◌-◌}
-use lib.ListN.{length, drop, drop_of_length-le}
-use lib.Seq.{drop-cons}
-use mathlib.Core.List.{List}
+use Prim.Native.Nat.{◌≤◌, ◌-◌}
+use lib.ListN.{length, drop}
 use mathlib.Core.Path.{◌≡◌}
-use native.Mathlib.Numerals.{add-one}
-use native.Mathlib.Omega.{arith}
-use Rattle.held_line.specs.Lines.{line_of, held_character, held_piece}
-use borrow.Author.Rules.{rules}
+use Rattle.held_line.specs.Lines.{line_of, held_piece}
 use Rattle.held_line.proofs.hold_each.Given as goal
 
 abbrev pub invariant-loop-i : goal.invariant-loop-i

@@ -1,6 +1,5 @@
 use mathlib.Core.Path.{refl}
 use Rattle.held_line.specs.Held.{full_count, full_buffer}
-use borrow.Author.Rules.{rules}
 use Rattle.held_line.proofs.hold_full.Goals as goal
 
 pub returns-then-is_digit-2 : goal.returns-then-is_digit-2

@@ -1,4 +1,3 @@
-use borrow.Author.Rules.{rules}
 use Rattle.held_line.proofs.hold_if.Goals as goal
 
 pub returns-then-wanted : goal.returns-then-wanted

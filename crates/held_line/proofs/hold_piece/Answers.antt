@@ -3,7 +3,6 @@ use lib.Dec.{eqb, leb}
 use lib.ListN.{length}
 use borrow.Author.Tests.{eqb-true, leb-true, not-true}
 use Rattle.octets.proofs.Tests.{both_hold}
-use borrow.Author.Rules.{rules}
 use Rattle.held_line.proofs.hold_piece.Goals as goal
 
 pub hold_short-requires : goal.hold_short-requires

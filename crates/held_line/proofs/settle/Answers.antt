@@ -1,4 +1,3 @@
-use borrow.Author.Rules.{rules}
 use Rattle.held_line.proofs.settle.Goals as goal
 
 pub returns : goal.returns

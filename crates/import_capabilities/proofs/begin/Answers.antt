@@ -7,7 +7,6 @@ use Rattle.octets.proofs.Writing.{written-fits, output-fits}
 use Rattle.lines.specs.Streams.{waiting_after}
 use Rattle.lines.proofs.Laws.{waits-too}
 use Rattle.stock_table.specs.Columns.{header_line}
-use borrow.Author.Rules.{rules}
 use Rattle.import_capabilities.proofs.begin.Goals as goal
 
 pub returns : goal.returns

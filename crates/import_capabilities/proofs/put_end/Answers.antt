@@ -1,6 +1,5 @@
 use mathlib.Core.Bool.{false≢true}
 use mathlib.Core.Path.{refl, sym, ◌∙◌}
-use borrow.Author.Rules.{rules}
 use Rattle.import_capabilities.proofs.put_end.Goals as goal
 
 pub returns-then-streams : goal.returns-then-streams

@@ -1,4 +1,3 @@
-use borrow.Author.Rules.{rules}
 use Rattle.import_capabilities.proofs.put_last.Goals as goal
 
 pub returns : goal.returns

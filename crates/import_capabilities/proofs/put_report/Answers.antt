@@ -2,7 +2,6 @@ use native.Mathlib.Omega.{arith}
 use Rattle.lines.proofs.Laws.{text-waits}
 use Rattle.import_tray.specs.Trays.{report_text}
 use Rattle.import_capabilities.proofs.Laws.{text-put}
-use borrow.Author.Rules.{rules}
 use Rattle.import_capabilities.proofs.put_report.Goals as goal
 
 pub returns : goal.returns

@@ -1,10 +1,8 @@
 use native.Mathlib.Omega.{arith}
 use Rattle.import_capabilities.specs.Turns.SocketsPut.{none}
 use Rattle.import_capabilities.proofs.Laws.{sockets-more}
-use Prim.Native.Nat.{◌≤◌, ◌-◌}
-use lib.ListN.{length}
+use Prim.Native.Nat.{◌-◌}
 use mathlib.Core.Path.{◌≡◌, refl}
-use Rattle.import_capabilities.specs.Turns.{SocketsPut}
 use borrow.Author.Rules.{rules}
 use Rattle.import_capabilities.proofs.put_sockets.Goals as goal
 

@@ -1,11 +1,7 @@
-use native.Mathlib.Omega.{arith}
-use Rattle.import_capabilities.specs.Turns.SocketsPut.{none}
-use Rattle.import_capabilities.proofs.Laws.{sockets-more}
 use Prim.Native.Nat.{◌≤◌, ◌-◌}
 use lib.ListN.{length}
-use mathlib.Core.Path.{◌≡◌, refl}
+use mathlib.Core.Path.{◌≡◌}
 use Rattle.import_capabilities.specs.Turns.{SocketsPut}
-use borrow.Author.Rules.{rules}
 use Rattle.import_capabilities.proofs.put_sockets.Given as goal
 
 abbrev pub invariant-loop-socket : goal.invariant-loop-socket

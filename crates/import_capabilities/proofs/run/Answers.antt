@@ -1,11 +1,8 @@
 use native.Mathlib.Omega.{arith}
-use Prim.Native.Nat.{◌≤◌}
-use lib.ListN.{length, replicate}
 use mathlib.Core.Path.{◌≡◌, refl, ap}
 use Rattle.lines.specs.declared.Streams.{Streams}
-use Rattle.lines.specs.Runs.{RunsTo}
 use Rattle.lines.proofs.Runs.{runs-begin, runs_on, runs-out}
-use Rattle.import_capabilities.specs.Runs.{state_of, program, first}
+use Rattle.import_capabilities.specs.Runs.{program}
 use borrow.Author.Rules.{rules}
 use Rattle.import_capabilities.proofs.run.Goals as goal
 

@@ -1,12 +1,7 @@
-use native.Mathlib.Omega.{arith}
-use Prim.Native.Nat.{◌≤◌}
-use lib.ListN.{length, replicate}
-use mathlib.Core.Path.{◌≡◌, refl, ap}
-use Rattle.lines.specs.declared.Streams.{Streams}
+use lib.ListN.{length}
+use mathlib.Core.Path.{◌≡◌}
 use Rattle.lines.specs.Runs.{RunsTo}
-use Rattle.lines.proofs.Runs.{runs-begin, runs_on, runs-out}
 use Rattle.import_capabilities.specs.Runs.{state_of, program, first}
-use borrow.Author.Rules.{rules}
 use Rattle.import_capabilities.proofs.run.Given as goal
 
 abbrev pub invariant-loop-turns : goal.invariant-loop-turns

@@ -2,7 +2,6 @@ use mathlib.Core.Bool.{false≢true}
 use Prim.Native.Nat.{ℕ}
 use mathlib.Core.Path.{refl, sym, ap, ◌∙◌}
 use Rattle.lines.specs.Streams.{is_whole}
-use borrow.Author.Rules.{rules}
 use Rattle.import_capabilities.proofs.take_turn.Goals as goal
 
 pub put_report-requires : goal.put_report-requires

@@ -1,4 +1,3 @@
-use borrow.Author.Rules.{rules}
 use Rattle.import_capabilities.proofs.waits.Goals as goal
 
 pub returns : goal.returns

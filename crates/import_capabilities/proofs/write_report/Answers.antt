@@ -1,6 +1,5 @@
 use native.Mathlib.Omega.{arith}
 use Rattle.import_capabilities.proofs.Laws.{no_text}
-use borrow.Author.Rules.{rules}
 use Rattle.import_capabilities.proofs.write_report.Goals as goal
 
 pub returns-in_default : goal.returns-in_default

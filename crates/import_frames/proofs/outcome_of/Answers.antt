@@ -1,17 +1,12 @@
 -- Answer by answer; the arm of all others says that it is neither of those before.
 use Prim.Native.Nat.{ℕ}
-use denote.Enum.Declared.{tag_of}
-use mathlib.Core.List.{List, [], ◌∷◌}
 use mathlib.Core.Path.{◌≡◌, refl}
-use types.Run.{OneOf, miss}
-use Rattle.links.specs.contracts.Answer.{the_type}
 use Rattle.links.specs.declared.Answer.{Answer}
 use Rattle.links.specs.declared.Refusal.{Refusal}
 use Rattle.transactions.specs.declared.TransactionNumber.{TransactionNumber}
 use Rattle.links.specs.declared.Answer.TheVariants as A
 use Rattle.import_frames.specs.Origins.{outcome_of}
 use Rattle.import_frames.specs.declared.Outcome.TheVariants as O
-use borrow.Author.Rules.{rules}
 use Rattle.import_frames.proofs.outcome_of.Goals as goal
 
 nothing : (a : Answer) → ((r : Refusal) → a ≡ A.Refused r → ⊥) → ((n : ℕ) (t : TransactionNumber) → a ≡ A.Delivered n t → ⊥) → O.Nothing ≡ outcome_of a

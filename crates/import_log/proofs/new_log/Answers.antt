@@ -1,4 +1,3 @@
-use borrow.Author.Rules.{rules}
 use Rattle.import_log.proofs.new_log.Goals as goal
 
 pub returns : goal.returns

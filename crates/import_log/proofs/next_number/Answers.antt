@@ -1,5 +1,4 @@
 use borrow.Author.Tests.{lt-ltb, le-ltb}
-use borrow.Author.Rules.{rules}
 use Rattle.import_log.proofs.next_number.Goals as goal
 
 pub returns-then-lines-lt18446744073709551615 : goal.returns-then-lines-lt18446744073709551615

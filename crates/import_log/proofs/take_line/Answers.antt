@@ -1,4 +1,3 @@
-use borrow.Author.Rules.{rules}
 use Rattle.import_log.proofs.take_line.Goals as goal
 
 pub returns : goal.returns

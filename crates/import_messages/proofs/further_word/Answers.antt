@@ -1,5 +1,4 @@
 use mathlib.Core.Path.{sym, ◌∙◌}
-use borrow.Author.Rules.{rules}
 use Rattle.import_messages.proofs.further_word.Goals as goal
 
 pub returns-then-same_fields : goal.returns-then-same_fields

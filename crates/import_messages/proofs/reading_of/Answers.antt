@@ -1,17 +1,11 @@
 -- Message by message; the arm of all others says that it is neither of those before.
-use Prim.Native.Nat.{ℕ}
-use denote.Enum.Declared.{tag_of}
-use mathlib.Core.List.{List, [], ◌∷◌}
 use mathlib.Core.Path.{◌≡◌, refl}
-use types.Run.{OneOf, miss}
-use Rattle.provisioning.specs.contracts.Message.{the_type}
 use Rattle.provisioning.specs.declared.Message.{Message}
 use Rattle.provisioning.specs.declared.Capabilities.{Capabilities}
 use Rattle.provisioning.specs.declared.MessageRefusal.{MessageRefusal}
 use Rattle.provisioning.specs.declared.Message.TheVariants as M
 use Rattle.import_messages.specs.Messages.{reading_of}
 use Rattle.import_messages.specs.declared.Reading.TheVariants as R
-use borrow.Author.Rules.{rules}
 use Rattle.import_messages.proofs.reading_of.Goals as goal
 
 other : (m : Message) → ((a : Capabilities) → m ≡ M.Capabilities a → ⊥) → ((r : MessageRefusal) → m ≡ M.Refused r → ⊥) → R.Other ≡ reading_of m

@@ -1,6 +1,5 @@
 use mathlib.Core.Path.{refl}
 use Rattle.import_messages.specs.Messages.{same_fields}
-use borrow.Author.Rules.{rules}
 use Rattle.import_messages.proofs.same_fields.Goals as goal
 
 pub returns : goal.returns

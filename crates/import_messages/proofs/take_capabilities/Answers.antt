@@ -1,19 +1,14 @@
 use Prim.Native.Nat.{ℕ}
-use denote.Enum.Declared.{tag_of}
-use mathlib.Core.List.{List, [], ◌∷◌}
-use mathlib.Core.Path.{◌≡◌, refl, sym, ◌∙◌, subst}
-use types.Run.{OneOf, miss}
+use mathlib.Core.Path.{◌≡◌, refl, sym, ◌∙◌}
 use Rattle.provisioning.specs.declared.Capabilities.{Capabilities}
 use Rattle.line_fields.specs.declared.Word.TheVariants as W
 use Rattle.stock_table.specs.Rows.{record_row}
 use Rattle.stock_table.specs.declared.Origin.{Origin}
-use Rattle.import_tray.specs.contracts.Stock.{the_type}
 use Rattle.import_tray.specs.Trays.{with_stock, row_after}
 use Rattle.import_tray.specs.declared.Stock.{Stock}
 use Rattle.import_tray.specs.declared.Stock.TheVariants as S
 use Rattle.import_tray.specs.declared.Tray.{Tray}
 use Rattle.import_messages.specs.Messages.{capabilities_by}
-use borrow.Author.Rules.{rules}
 use Rattle.import_messages.proofs.take_capabilities.Goals as goal
 
 first : (s : Stock) → ((d : Capabilities) → s ≡ S.Recorded d → ⊥) → (tray : Tray) (place line : ℕ) (origin : Origin) (c : Capabilities)

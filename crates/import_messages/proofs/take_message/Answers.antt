@@ -1,5 +1,4 @@
 use mathlib.Core.Path.{sym, ◌∙◌}
-use borrow.Author.Rules.{rules}
 use Rattle.import_messages.proofs.take_message.Goals as goal
 
 pub returns-in-Record : goal.returns-in-Record

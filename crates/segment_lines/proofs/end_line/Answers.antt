@@ -5,7 +5,6 @@ use Rattle.hex_lines.specs.Lines.{line_text}
 use Rattle.lines.proofs.Laws.{text-waits}
 use Rattle.segment_lines.specs.Turns.{held_text}
 use Rattle.segment_lines.proofs.Laws.{text-never, text-counts, text-output, text-room}
-use borrow.Author.Rules.{rules}
 use Rattle.segment_lines.proofs.end_line.Goals as goal
 
 pub slice_bounds-write_line-end : goal.slice_bounds-write_line-end

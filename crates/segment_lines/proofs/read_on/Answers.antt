@@ -2,7 +2,6 @@ use native.Mathlib.Omega.{arith}
 use mathlib.Core.Path.{refl}
 use Rattle.line_buffer.proofs.Promises.{holds-piece}
 use Rattle.lines.specs.Streams.{piece_in}
-use borrow.Author.Rules.{rules}
 use Rattle.segment_lines.proofs.read_on.Goals as goal
 
 pub returns : goal.returns

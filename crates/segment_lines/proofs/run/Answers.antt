@@ -1,11 +1,8 @@
 use borrow.Author.Rules.{rules}
-use Prim.Native.Nat.{◌≤◌}
-use lib.ListN.{length}
 use mathlib.Core.Path.{◌≡◌, refl}
 use native.Mathlib.Omega.{arith}
-use Rattle.lines.specs.Runs.{RunsTo}
 use Rattle.lines.proofs.Runs.{runs_on, runs-out}
-use Rattle.segment_lines.specs.Runs.{state_of, program, first}
+use Rattle.segment_lines.specs.Runs.{program}
 use Rattle.segment_lines.proofs.Laws.{turn-few}
 use Rattle.segment_lines.proofs.Runs.{runs-start}
 use Rattle.segment_lines.proofs.run.Goals as goal

@@ -1,6 +1,5 @@
 use mathlib.Core.Bool.{false≢true}
 use mathlib.Core.Path.{refl, sym, ◌∙◌}
-use borrow.Author.Rules.{rules}
 use Rattle.segment_lines.proofs.take_turn.Goals as goal
 
 pub returns-then-is_whole : goal.returns-then-is_whole

@@ -1,6 +1,5 @@
 use mathlib.Core.Path.{sym, ◌∙◌, subst}
 use Rattle.import_frames.specs.Origins.{FoundWithin}
-use borrow.Author.Rules.{rules}
 use Rattle.import_frames.proofs.heard.deliver.Goals as goal
 
 pub returns-in_default : goal.returns-in_default

@@ -1,5 +1,4 @@
 use Rattle.import_frames.proofs.Laws.{no-repeat}
-use borrow.Author.Rules.{rules}
 use Rattle.import_frames.proofs.heard.is_repeat.Goals as goal
 
 pub returns-in-Acknowledgement : goal.returns-in-Acknowledgement

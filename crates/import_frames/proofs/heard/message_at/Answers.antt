@@ -1,9 +1,7 @@
-use Prim.Native.Nat.{◌+◌, ◌-◌}
 use mathlib.Core.Path.{ap}
 use native.Mathlib.Nat.{add-sub_cancel_left}
 use Rattle.provisioning.specs.Message.{message_read}
 use Rattle.import_frames.proofs.Laws.{part-within}
-use borrow.Author.Rules.{rules}
 use Rattle.import_frames.proofs.heard.message_at.Goals as goal
 
 pub returns : goal.returns

@@ -1,4 +1,3 @@
-use borrow.Author.Rules.{rules}
 use Rattle.import_frames.proofs.heard.next_of.Goals as goal
 
 pub returns-in_default : goal.returns-in_default

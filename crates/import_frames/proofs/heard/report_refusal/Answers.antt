@@ -1,5 +1,4 @@
 use mathlib.Core.Path.{sym, ◌∙◌}
-use borrow.Author.Rules.{rules}
 use Rattle.import_frames.proofs.heard.report_refusal.Goals as goal
 
 pub returns-then-is_repeat : goal.returns-then-is_repeat

@@ -1,5 +1,4 @@
 use Rattle.import_frames.specs.Heard.{heard_step, heard_area}
-use borrow.Author.Rules.{rules}
 use Rattle.import_frames.proofs.heard.take_heard.Goals as goal
 
 pub returns : goal.returns

@@ -1,4 +1,3 @@
-use borrow.Author.Rules.{rules}
 use Rattle.import_frames.proofs.heard.tell_heard.Goals as goal
 
 pub returns-in-Refused : goal.returns-in-Refused

@@ -1,4 +1,3 @@
-use borrow.Author.Rules.{rules}
 use Rattle.import_frames.proofs.origins.frame_origin.Goals as goal
 
 pub origin_by-requires : goal.origin_by-requires

@@ -1,4 +1,3 @@
-use borrow.Author.Rules.{rules}
 use Rattle.import_frames.proofs.origins.origin_at.Goals as goal
 
 pub returns : goal.returns

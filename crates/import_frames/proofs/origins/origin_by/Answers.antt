@@ -1,4 +1,3 @@
-use borrow.Author.Rules.{rules}
 use Rattle.import_frames.proofs.origins.origin_by.Goals as goal
 
 pub returns-in-Segment : goal.returns-in-Segment

@@ -1,7 +1,6 @@
 use native.Mathlib.Omega.{arith}
 use mathlib.Core.Path.{subst}
 use Rattle.import_frames.specs.Origins.{FoundWithin}
-use borrow.Author.Rules.{rules}
 use Rattle.import_frames.proofs.origins.socket_field.Goals as goal
 
 pub overflow_add-result : goal.overflow_add-result

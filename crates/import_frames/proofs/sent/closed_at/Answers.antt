@@ -1,7 +1,5 @@
-use native.Mathlib.Omega.{arith}
 use mathlib.Core.Path.{subst}
 use Rattle.import_frames.specs.Origins.{FoundWithin}
-use borrow.Author.Rules.{rules}
 use Rattle.import_frames.proofs.sent.closed_at.Goals as goal
 
 pub socket_at-requires : goal.socket_at-requires

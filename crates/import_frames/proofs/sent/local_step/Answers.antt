@@ -1,6 +1,5 @@
 use Rattle.import_frames.proofs.Laws.{nothing-told}
 use mathlib.Core.Path.{sym, ◌∙◌}
-use borrow.Author.Rules.{rules}
 use Rattle.import_frames.proofs.sent.local_step.Goals as goal
 
 pub returns-in-Refused : goal.returns-in-Refused

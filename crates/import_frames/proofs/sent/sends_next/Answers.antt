@@ -1,4 +1,3 @@
-use borrow.Author.Rules.{rules}
 use Rattle.import_frames.proofs.sent.sends_next.Goals as goal
 
 pub returns : goal.returns

@@ -1,6 +1,5 @@
 use mathlib.Core.Path.{sym, ◌∙◌, subst}
 use Rattle.import_frames.specs.Origins.{FoundWithin}
-use borrow.Author.Rules.{rules}
 use Rattle.import_frames.proofs.sent.sent_at.Goals as goal
 
 pub socket_at-requires : goal.socket_at-requires

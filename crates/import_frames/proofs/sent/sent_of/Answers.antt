@@ -1,5 +1,4 @@
 use Rattle.import_frames.proofs.Laws.{asks_nothing}
-use borrow.Author.Rules.{rules}
 use Rattle.import_frames.proofs.sent.sent_of.Goals as goal
 
 pub returns-in_default-header : goal.returns-in_default-header
@@ -15,4 +14,4 @@ pub returns-in-Refused : goal.returns-in-Refused
 returns-in-Refused c = rw (c.in-Refused.is, c.number_of.ensures)
 
 pub returns-in_default : goal.returns-in_default
-returns-in_default c = asks_nothing c.args.parsed c.in_default.in_default-own.keys4 c.args.links c.args.found
+returns-in_default c = asks_nothing c.args.parsed c.in_default.not-Segment c.in_default.not-Close c.in_default.not-Refused c.args.links c.args.found

@@ -1,4 +1,3 @@
-use borrow.Author.Rules.{rules}
 use Rattle.import_frames.proofs.sent.take_asked.Goals as goal
 
 pub returns-in-Nothing : goal.returns-in-Nothing

@@ -1,5 +1,4 @@
 use Rattle.import_frames.specs.Sent.{sent_step}
-use borrow.Author.Rules.{rules}
 use Rattle.import_frames.proofs.sent.take_sent.Goals as goal
 
 pub sent_of-asked-requires : goal.sent_of-asked-requires

@@ -3,7 +3,6 @@ use lib.ListN.{replicate}
 use mathlib.Core.Path.{refl, sym, ◌∙◌}
 use Rattle.import_lines.proofs.Laws.{held-few, held-no-frame, held-is-frame, held_same}
 use Rattle.import_lines.specs.Lines.{line_step, line_area}
-use borrow.Author.Rules.{rules}
 use Rattle.import_lines.proofs.steps.import_line.Goals as goal
 
 pub returns-then-count-eq0 : goal.returns-then-count-eq0

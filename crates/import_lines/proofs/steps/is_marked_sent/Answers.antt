@@ -2,7 +2,6 @@ use native.Mathlib.Omega.{arith}
 use mathlib.Core.Path.{◌≡◌, refl}
 use mathlib.Core.Bool.{false≢true}
 use lib.ListN.{get_or, get_or-eq_default}
-use borrow.Author.Rules.{rules}
 use Rattle.import_lines.proofs.steps.is_marked_sent.Goals as goal
 
 pub returns-then-line-eq0 : goal.returns-then-line-eq0

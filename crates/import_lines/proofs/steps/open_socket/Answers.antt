@@ -1,5 +1,4 @@
 use Rattle.import_lines.specs.Lines.{opened_step}
-use borrow.Author.Rules.{rules}
 use Rattle.import_lines.proofs.steps.open_socket.Goals as goal
 
 pub returns : goal.returns

@@ -3,7 +3,6 @@ use lib.Seq.{take_all}
 use native.Mathlib.Omega.{arith}
 use mathlib.Core.Path.{refl, sym, ap, ◌∙◌}
 use Rattle.import_lines.proofs.Laws.{held-octets, held-other, held-room}
-use borrow.Author.Rules.{rules}
 use Rattle.import_lines.proofs.steps.read_frame.Goals as goal
 
 pub returns-in-Octets : goal.returns-in-Octets

@@ -1,6 +1,5 @@
 use mathlib.Core.Path.{sym, ◌∙◌}
 use Rattle.import_lines.proofs.Laws.{opened-line, unopened-line}
-use borrow.Author.Rules.{rules}
 use Rattle.import_lines.proofs.steps.take_other.Goals as goal
 
 pub returns-in-Opens : goal.returns-in-Opens

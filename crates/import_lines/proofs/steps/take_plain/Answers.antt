@@ -1,6 +1,5 @@
 use borrow.Author.Tests.{eq-eqb, ne_eqb}
 use Rattle.import_lines.specs.Lines.{plain_step}
-use borrow.Author.Rules.{rules}
 use Rattle.import_lines.proofs.steps.take_plain.Goals as goal
 
 pub returns-then-line-eq0 : goal.returns-then-line-eq0

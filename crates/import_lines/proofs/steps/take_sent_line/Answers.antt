@@ -4,7 +4,6 @@ use lib.ListN.{replicate}
 use mathlib.Core.Path.{refl, sym, ◌∙◌}
 use Rattle.import_lines.proofs.Laws.{held-few, held-no-frame, held-is-frame, held_same}
 use Rattle.import_lines.specs.Lines.{sent_line}
-use borrow.Author.Rules.{rules}
 use Rattle.import_lines.proofs.steps.take_sent_line.Goals as goal
 
 pub returns-then-count-eq0 : goal.returns-then-count-eq0

@@ -4,7 +4,6 @@ use lib.Seq.{take_all}
 use Prim.Native.Nat.{◌-◌}
 use lib.ListN.{length, drop, length-drop}
 use Rattle.import_lines.specs.Lines.{unheard_step}
-use borrow.Author.Rules.{rules}
 use Rattle.import_lines.proofs.steps.take_unheard.Goals as goal
 
 pub slice_bounds-take_sent_line-count : goal.slice_bounds-take_sent_line-count

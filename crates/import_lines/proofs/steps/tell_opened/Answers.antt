@@ -1,5 +1,4 @@
 use Rattle.import_lines.proofs.Laws.{opened-told}
-use borrow.Author.Rules.{rules}
 use Rattle.import_lines.proofs.steps.tell_opened.Goals as goal
 
 pub returns-in-Refused : goal.returns-in-Refused
