@@ -1,17 +1,18 @@
 -- The promises of `specs/Promises.antt` but the tables of answers.
-use Prim.Native.Nat.{ℕ, ◌+◌, ◌≤◌}
+use Prim.Native.Nat.{ℕ, ◌≤◌}
 use native.Mathlib.Omega.{arith}
-use mathlib.Core.Bool.{Bool, true, false, ◌&&◌, not}
+use mathlib.Core.Bool.{Bool, true, false}
 use mathlib.Core.List.{List, [], ◌∷◌}
 use mathlib.Core.Path.{◌≡◌, refl, sym, ◌∙◌}
+use Rattle.std.specs.Prelude.{Option, Some, None, Ok}
 use lib.Dec.{leb, eqb}
 use lib.ListN.{length, get_or}
-use borrow.Author.Tests.{leb-true, eqb-true, eq-eqb, ne_eqb, le-leb, lt-leb}
+use borrow.Author.Tests.{leb-true, leb-false}
 use Rattle.octets.specs.Told.{answered}
 use Rattle.octets.proofs.Tables.{other-told}
-use Rattle.octets.proofs.Tests.{cases}
-use Rattle.beacon.specs.Rules.{key_wrong, key_rule, out_of_window, iv_rule, recovery_step, recovery_from}
-use Rattle.beacon.specs.Beacons.{refusing, is_good, unprovisioned, refresh_flag, update_flag, index_of, moved, secure, heard, at_phase, started, set, revoke_value, report_value, told}
+use Rattle.octets.proofs.Tests.{cases, tests}
+use Rattle.beacon.specs.Rules.{key_wrong, key_rule, out_of_window, iv_rule}
+use Rattle.beacon.specs.Beacons.{refusing, is_good, unprovisioned, refresh_flag, update_flag, index_of, moved, secure, heard, started, set, revoke_value, report_value, told}
 use Rattle.beacon.specs.Promises.{Safe, AllSafe, TypeZeroKeeps, LocalMoves, Accepts, Apart, KeyTable, IvTable}
 use Rattle.beacon.specs.declared.Key.{Key}
 use Rattle.beacon.specs.declared.Key.TheVariants.{Old, New}
@@ -19,8 +20,6 @@ use Rattle.beacon.specs.declared.Subnet.{Subnet}
 use Rattle.beacon.specs.declared.IvState.{IvState}
 use Rattle.beacon.specs.declared.SecurityState.{SecurityState}
 use Rattle.beacon.specs.declared.Hearing.{Hearing}
-use Rattle.beacon.specs.declared.Hash.{Hash}
-use Rattle.beacon.specs.declared.Hash.TheVariants as H
 use Rattle.beacon.specs.declared.BeaconRefusal.{BeaconRefusal}
 use Rattle.beacon.specs.declared.BeaconRefusal.TheVariants as R
 use Rattle.beacon.specs.declared.BeaconAnswer.TheVariants as A
@@ -50,45 +49,34 @@ key-table = record {
 pub iv-table : (i : ℕ) → IvTable i
 unfolding iv_rule
 iv-table i = record {
-  normal-same = λ f. rw (ne_eqb i (i + 1) (λ e. absurd (omega arith)), lt-leb (i + 2) i (omega arith));
-  normal-next-1 = rw (eq-eqb (i + 1) (i + 1) refl);
-  normal-next-0 = rw (eq-eqb (i + 1) (i + 1) refl, lt-leb (i + 2) (i + 1) (omega arith));
-  normal-later = λ n f. rw (ne_eqb (i + 2 + n) (i + 1) (λ e. absurd (omega arith)), le-leb (i + 2) (i + 2 + n) (omega arith));
-  progress-same-0 = rw (eq-eqb i i refl);
-  progress-same-1 = rw (eq-eqb i i refl, lt-leb (i + 1) i (omega arith));
-  progress-later = λ n f. rw (ne_eqb (i + 1 + n) i (λ e. absurd (omega arith)), le-leb (i + 1) (i + 1 + n) (omega arith));
+  normal-same = λ f. grind (arith, tests);
+  normal-next-1 = grind (arith, tests);
+  normal-next-0 = grind (arith, tests);
+  normal-later = λ n f. grind (arith, tests);
+  progress-same-0 = grind (arith, tests);
+  progress-same-1 = grind (arith, tests);
+  progress-later = λ n f. grind (arith, tests);
 }
 
 -- ---- the rules by themselves
 
 phase-good : (phase : ℕ) (k : Key) (f : Bool) → leb phase 2 ≡ true → leb (key_rule phase k f).phase 2 ≡ true
-phase-good phase Old f h = h
-phase-good phase New true h = refl
-phase-good phase New false h = refl
-
-recovery-iv : (iv : IvState) (t : Bool) → (recovery_step iv t).iv ≡ iv
-recovery-iv iv true = refl
-recovery-iv iv false = refl
+phase-good phase k f h = grind arith
 
 -- the index stays or rises, and never passes the one received
 index-between : (iv : IvState) (b : ℕ) (f : Bool) → iv.index ≤ b → (iv.index ≤ (iv_rule iv b f).iv.index) × ((iv_rule iv b f).iv.index ≤ b)
 unfolding iv_rule
-index-between iv b f h =
-    cases (not iv.updating && (eqb b (iv.index + 1) && f))
-    (λ e. rw e (h, omega arith))
-    (λ e. rw e (cases (iv.updating && (eqb b iv.index && not f))
-    (λ g. rw g (omega arith, h))
-    (λ g. rw (g, recovery-iv iv (leb (recovery_from iv) b)) (omega arith, h))))
+index-between iv b f h = grind (arith, tests)
 
 in_window : (i b : ℕ) (subnet : Subnet) → out_of_window i subnet b ≡ false → i ≤ b
 unfolding out_of_window
-in_window i b subnet h = cases (leb i b) (λ e. leb-true i b e) (λ e. let z : true ≡ false = rw e at h in absurd (let q : ◌≡◌ {A = ℕ} 0 1 = cc in omega arith))
+in_window i b subnet h = grind (arith, leb-true, leb-false)
 
 -- ---- what hearing a beacon can do
 
 data Outcome (s : SecurityState) (host : Hearing) (b : List ℕ) : Heard → Type 0 where
   refuses : (q : BeaconRefusal) → Outcome s host b (refusing s q)
-  tells : (u o : ℕ) (h : Hash) → Outcome s host b (record { state = s; answer = A.Unprovisioned u o h })
+  tells : (u o : ℕ) (h : Option ℕ) → Outcome s host b (record { state = s; answer = Ok (A.Unprovisioned u o h) })
   steps : is_good s ≡ true → out_of_window s.iv.index host.subnet (index_of b) ≡ false → Outcome s host b (moved s host b)
 
 by-secure : (s : SecurityState) (host : Hearing) (b : List ℕ) → is_good s ≡ true → Outcome s host b (secure s host b)
@@ -107,8 +95,8 @@ outcome s host b =
     cases (is_good s)
     (λ g. rw g (cases (eqb (length b) 0) (λ e. rw e (refuses R.Empty))
     (λ e. rw e (cases (eqb (get_or b 0 0) 0)
-    (λ e. rw e (cases (eqb (length b) 19) (λ e. rw e (tells 1 _ H.Nothing))
-    (λ e. rw e (cases (eqb (length b) 23) (λ e. rw e (tells 1 _ (H.At 19))) (λ e. rw e (refuses R.WrongLength))))))
+    (λ e. rw e (cases (eqb (length b) 19) (λ e. rw e (tells 1 _ None))
+    (λ e. rw e (cases (eqb (length b) 23) (λ e. rw e (tells 1 _ (Some 19))) (λ e. rw e (refuses R.WrongLength))))))
     (λ e. rw e (cases (eqb (get_or b 0 0) 1)
     (λ e. rw e (by-secure s host b g))
     (λ e. rw e (refuses R.UnknownType))))))))
@@ -119,19 +107,12 @@ outcome s host b =
 safe-refusing : (s : SecurityState) (q : BeaconRefusal) → Safe s (refusing s q)
 safe-refusing s q = record { refusal-keeps = λ r e. refl; keeps-good = λ h. h; index-stays-or-rises = omega arith }
 
-safe-at-phase : (s : SecurityState) (phase : ℕ) (revoke : Bool) → leb phase 2 ≡ true → Safe s (at_phase s phase revoke)
-safe-at-phase s phase revoke h = record {
-  refusal-keeps = λ r e. let z : ◌≡◌ {A = ℕ} 0 1 = cc in absurd (omega arith);
-  keeps-good = λ g. h;
-  index-stays-or-rises = omega arith;
-}
-
 safe-outcome : (s : SecurityState) (host : Hearing) (b : List ℕ) (r : Heard) → Outcome s host b r → Safe s r
 unfolding moved
 safe-outcome s host b r (refuses q) = safe-refusing s q
 safe-outcome s host b r (tells u o h) = record { refusal-keeps = λ r e. refl; keeps-good = λ g. g; index-stays-or-rises = omega arith }
 safe-outcome s host b r (steps g w) = record {
-  refusal-keeps = λ n e. let z : ◌≡◌ {A = ℕ} 0 1 = cc in absurd (omega arith);
+  refusal-keeps = λ n e. cc;
   keeps-good = λ g. phase-good s.phase host.key (refresh_flag b) g;
   index-stays-or-rises = (index-between s.iv (index_of b) (update_flag b) (in_window s.iv.index (index_of b) host.subnet w)).0;
 }
@@ -140,44 +121,18 @@ pub all-safe : AllSafe
 unfolding started set
 all-safe = record {
   beacon = λ s host b. safe-outcome s host b (heard s host b) (outcome s host b);
-  start = λ s.
-      cases (is_good s)
-      (λ g. rw g (cases (eqb s.phase 0) (λ e. rw e (safe-at-phase s 1 false refl)) (λ e. rw e (safe-refusing s R.NotAllowed))))
-      (λ g. rw g (safe-refusing s R.BadState));
+  start = λ s. record { refusal-keeps = λ n. grind (arith, tests); keeps-good = grind (arith, tests); index-stays-or-rises = grind (arith, tests) };
   setting = λ s target.
-      cases (is_good s)
-      (λ g. rw g (cases (leb 1 s.phase)
-      (λ e. rw e (cases (eqb target 2) (λ e. rw e (safe-at-phase s 2 false refl))
-      (λ e. rw e (cases (eqb target 3) (λ e. rw e (safe-at-phase s 0 true refl)) (λ e. rw e (safe-refusing s R.NotAllowed))))))
-      (λ e. rw e (safe-refusing s R.NotAllowed))))
-      (λ g. rw g (safe-refusing s R.BadState));
+      record { refusal-keeps = λ n. grind (arith, tests); keeps-good = grind (arith, tests); index-stays-or-rises = grind (arith, tests) };
 }
 
 pub type-zero-keeps : TypeZeroKeeps
 unfolding heard unprovisioned
-type-zero-keeps s host b zero =
-    rw (eq-eqb (get_or b 0 0) 0 zero)
-    (cases (is_good s)
-    (λ e. rw e (cases (eqb (length b) 0) (λ e. rw e)
-    (λ e. rw e (cases (eqb (length b) 19) (λ e. rw e)
-    (λ e. rw e (cases (eqb (length b) 23) (λ e. rw e) (λ e. rw e)))))))
-    (λ e. rw e))
+type-zero-keeps s host b zero = grind (arith, tests)
 
 pub local-moves : LocalMoves
 unfolding started set
-local-moves = record {
-  start = λ s values.
-      cases (is_good s)
-      (λ g. rw g (cases (eqb s.phase 0) (λ e. rw e (λ _. refl)) (λ e. rw e (other-told _ _ refl))))
-      (λ g. rw g (other-told _ _ refl));
-  setting = λ s target values.
-      cases (is_good s)
-      (λ g. rw g (cases (leb 1 s.phase)
-      (λ e. rw e (cases (eqb target 2) (λ e. rw (e, ne_eqb target 3 (omega (arith, eqb-true target 2 e))) (λ _. refl))
-      (λ e. rw e (cases (eqb target 3) (λ e. rw e (λ _. refl)) (λ e. rw e (other-told _ _ refl))))))
-      (λ e. rw e (other-told _ _ refl))))
-      (λ g. rw g (other-told _ _ refl));
-}
+local-moves = record { start = λ s values. grind (arith, tests); setting = λ s target values. grind (arith, tests) }
 
 -- ---- an accepted beacon of type 1
 

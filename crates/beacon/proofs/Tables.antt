@@ -1,22 +1,21 @@
 -- The tables of `specs/Tables.antt`: the first row that holds, test by test.
-use Prim.Native.Nat.{ℕ, zero, suc, ◌+◌}
+use Prim.Native.Nat.{ℕ}
 use native.Mathlib.Omega.{arith}
-use mathlib.Core.Bool.{Bool, true, false, ◌&&◌, ◌||◌, not, cond, and-true, and-false, or-false}
+use mathlib.Core.Bool.{Bool, true, false, ◌||◌, cond}
 use mathlib.Core.List.{List}
 use mathlib.Core.Option.{some}
 use mathlib.Core.Path.{◌≡◌, refl}
 use lib.Dec.{leb, eqb}
 use lib.ListN.{length, get_or}
-use borrow.Author.Tests.{leb-true, le-leb, lt-leb, eqb-true}
+use borrow.Author.Tests.{leb-true, lt-ltb, eqb-true}
 use Rattle.octets.specs.Tables.{first_of}
 use Rattle.octets.proofs.Tables.{by-table}
-use Rattle.octets.proofs.Tests.{cases, both_hold, lt_not_le}
+use Rattle.octets.proofs.Tests.{cases, tests, lt_not_le}
 use Rattle.beacon.specs.Rules.{key_wrong, key_rule, is_secondary, out_of_window, iv_rule}
 use Rattle.beacon.specs.Beacons.{unprovisioned, refresh_flag, update_flag, index_of, moved, secure, heard, started, set, revoke_value, report_value, told}
 use Rattle.beacon.specs.Tables.{is_wrong_key, on_secondary, is_out_of_window, revokes_old, resets_sequence, wants_recovery, heard_rows, start_rows, set_rows}
 use Rattle.beacon.specs.Promises.{HeardTable, StartTable, SetTable}
 use Rattle.beacon.specs.declared.Key.{Key}
-use Rattle.beacon.specs.declared.Key.TheVariants.{Old, New}
 use Rattle.beacon.specs.declared.Subnet.{Subnet}
 use Rattle.beacon.specs.declared.Subnet.TheVariants.{Primary, Secondary}
 use Rattle.beacon.specs.declared.IvState.{IvState}
@@ -31,8 +30,7 @@ one_only x a b d e = rw (eqb-true x a e) d
 
 -- 55 and 57 as `Rules.antt` tests them
 key-same : (phase : ℕ) (key : Key) → is_wrong_key phase key ≡ key_wrong phase key
-key-same phase Old = rw (and-false (eqb phase 0), and-true (eqb phase 2))
-key-same phase New = rw (and-true (eqb phase 0), and-false (eqb phase 2), or-false (eqb phase 0))
+key-same phase key = grind arith
 
 secondary-same : (subnet : Subnet) → on_secondary subnet ≡ is_secondary subnet
 secondary-same Primary = refl
@@ -40,47 +38,22 @@ secondary-same Secondary = refl
 
 window_same : (i : ℕ) (subnet : Subnet) (b : ℕ) → is_out_of_window i subnet b ≡ out_of_window i subnet b
 unfolding out_of_window
-window_same i subnet b =
-    let edge : suc (i + 42) ≡ i + 43 = omega arith in
-    let next : suc i ≡ i + 1 = omega arith in
-    rw (edge, next, lt_not_le b i, secondary-same subnet)
+window_same i subnet b = grind (arith, tests, lt-ltb)
 
 -- the two values of the answer, as the rules give them
 
 revoke-same : (phase : ℕ) (key : Key) (flag : Bool) → leb phase 2 ≡ true → key_wrong phase key ≡ false
     → cond (revokes_old phase key flag) 1 0 ≡ revoke_value (key_rule phase key flag).revoke
-revoke-same phase Old flag g k = rw (and-false (eqb phase 1), k)
-revoke-same phase New true g k = rw (and-false (eqb phase 1), and-false (eqb phase 2))
-revoke-same zero New false g k = let z : ◌≡◌ {A = ℕ} 0 1 = cc in absurd (omega arith)
-revoke-same (suc zero) New false g k = refl
-revoke-same (suc (suc zero)) New false g k = refl
-revoke-same (suc (suc (suc phase))) New false g k = absurd (omega (arith, leb-true (suc (suc (suc phase))) 2 g))
-
-later-too : (i b : ℕ) → (leb (i + 2) b || leb (i + 1) b) ≡ leb (i + 1) b
-later-too i b =
-    cases (leb (i + 2) b)
-    (λ e. rw (e, le-leb (i + 1) b (omega (arith, leb-true (i + 2) b e))))
-    (λ e. rw e)
+revoke-same phase key flag g k = grind (arith, tests, leb-true)
 
 report-same : (iv : IvState) (b : ℕ) (flag : Bool)
     → cond (resets_sequence iv b flag) 1 (cond (wants_recovery iv b) 2 0) ≡ report_value (iv_rule iv b flag).report
 unfolding iv_rule
-report-same iv b flag =
-    cases iv.updating
-    (λ u. rw (u, later-too iv.index b)
-    (cases (eqb b iv.index && not flag) (λ e. rw e)
-    (λ e. rw e (cases (leb (iv.index + 1) b) (λ r. rw r) (λ r. rw r)))))
-    (λ u. rw (u, or-false (leb (iv.index + 2) b))
-    (cases (eqb b (iv.index + 1) && flag)
-    (λ e. rw (e, lt-leb (iv.index + 2) b (omega (arith, eqb-true b (iv.index + 1) (both_hold {a = eqb b (iv.index + 1)} e).0))))
-    (λ e. rw e (cases (leb (iv.index + 2) b) (λ r. rw r) (λ r. rw r)))))
+report-same iv b flag = grind (arith, tests)
 
 -- a good state's phase that is not 0
 one-or-two : (phase : ℕ) → leb phase 2 ≡ true → (eqb phase 1 || eqb phase 2) ≡ leb 1 phase
-one-or-two zero h = refl
-one-or-two (suc zero) h = refl
-one-or-two (suc (suc zero)) h = refl
-one-or-two (suc (suc (suc phase))) h = absurd (omega (arith, leb-true (suc (suc (suc phase))) 2 h))
+one-or-two phase h = grind (arith, tests, leb-true)
 
 -- ---- a beacon
 
@@ -111,19 +84,8 @@ heard-table s host b = by-table (told (heard s host b).answer) (heard_rows s hos
 
 pub start-table : StartTable
 unfolding started
-start-table s =
-    by-table (told (started s).answer) (start_rows s) refl
-    (rw (lt_not_le 2 s.phase) (cases (leb s.phase 2)
-    (λ e. rw e (cases (eqb s.phase 0) (λ e. rw e) (λ e. rw e)))
-    (λ e. rw e)))
+start-table s = by-table (told (started s).answer) (start_rows s) refl (grind (arith, tests, lt_not_le))
 
 pub set-table : SetTable
 unfolding set
-set-table s target =
-    by-table (told (set s target).answer) (set_rows s target) refl
-    (rw (lt_not_le 2 s.phase) (cases (leb s.phase 2)
-    (λ e. rw (e, one-or-two s.phase e) (cases (leb 1 s.phase)
-    (λ e. rw e (cases (eqb target 2) (λ e. rw (e, one_only target 2 3 refl e))
-    (λ e. rw e (cases (eqb target 3) (λ e. rw e) (λ e. rw e)))))
-    (λ e. rw e)))
-    (λ e. rw e)))
+set-table s target = by-table (told (set s target).answer) (set_rows s target) refl (grind (arith, tests, lt_not_le, one-or-two))

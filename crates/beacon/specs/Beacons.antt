@@ -1,12 +1,10 @@
 -- A beacon heard, and the local calls on the key refresh phase.
-use Rattle.std.specs.Prelude.{ℕ, ◌/◌, ◌%◌, Bool, true, false, cond, List, [], ◌∷◌, leb, eqb, length, get_or}
+use Rattle.std.specs.Prelude.{ℕ, ◌/◌, ◌%◌, Bool, true, false, cond, List, [], ◌∷◌, leb, eqb, length, get_or, Option, Some, None, Result, Ok, Err}
 use Rattle.octets.specs.Numbers.{big16, big32}
 use Rattle.octets.specs.Told.{Told, refused, answered}
 use Rattle.beacon.specs.Rules.{key_wrong, key_rule, out_of_window, iv_rule}
 use Rattle.beacon.specs.declared.SecurityState.{SecurityState}
 use Rattle.beacon.specs.declared.Hearing.{Hearing}
-use Rattle.beacon.specs.declared.Hash.{Hash}
-use Rattle.beacon.specs.declared.Hash.TheVariants as H
 use Rattle.beacon.specs.declared.IvReport.{IvReport}
 use Rattle.beacon.specs.declared.IvReport.TheVariants as I
 use Rattle.beacon.specs.declared.BeaconRefusal.{BeaconRefusal}
@@ -16,7 +14,7 @@ use Rattle.beacon.specs.declared.BeaconAnswer.TheVariants as A
 use Rattle.beacon.specs.declared.Heard.{Heard}
 
 abbrev pub refusing : SecurityState → BeaconRefusal → Heard
-refusing s r = record { state = s; answer = A.Refused r }
+refusing s r = record { state = s; answer = Err r }
 
 -- "a phase above 2" is bad
 abbrev pub is_good : SecurityState → Bool
@@ -25,8 +23,8 @@ is_good s = leb s.phase 2
 -- ---- "Type 0: UUID 16, OOB 2, optional hash 4"; 53: "length not 19 or 23"; it "changes no state"
 unfoldable pub unprovisioned : SecurityState → List ℕ → Heard
 unprovisioned s b =
-    cond (eqb (length b) 19) (record { state = s; answer = A.Unprovisioned 1 (big16 b 17) H.Nothing })
-    (cond (eqb (length b) 23) (record { state = s; answer = A.Unprovisioned 1 (big16 b 17) (H.At 19) })
+    cond (eqb (length b) 19) (record { state = s; answer = Ok (A.Unprovisioned 1 (big16 b 17) None) })
+    (cond (eqb (length b) 23) (record { state = s; answer = Ok (A.Unprovisioned 1 (big16 b 17) (Some 19)) })
     (refusing s R.WrongLength))
 
 -- ---- "Type 1: flags 1 (bit 0 key refresh, bit 1 IV update, others ignored), Network ID 8, IV index 4, authentication 8"
@@ -44,7 +42,7 @@ index_of b = big32 b 10
 unfoldable pub moved : SecurityState → Hearing → List ℕ → Heard
 moved s host b = record {
   state = record { phase = (key_rule s.phase host.key (refresh_flag b)).phase; iv = (iv_rule s.iv (index_of b) (update_flag b)).iv };
-  answer = A.Secure (key_rule s.phase host.key (refresh_flag b)).revoke (iv_rule s.iv (index_of b) (update_flag b)).report;
+  answer = Ok (A.Secure (key_rule s.phase host.key (refresh_flag b)).revoke (iv_rule s.iv (index_of b) (update_flag b)).report);
 }
 
 -- 53, 54, 55, 57, or both rules
@@ -71,7 +69,7 @@ heard s host b =
 -- ---- the local calls: 14, then 56
 
 abbrev pub at_phase : SecurityState → ℕ → Bool → Heard
-at_phase s phase revoke = record { state = record { phase = phase; iv = s.iv }; answer = A.Moved revoke }
+at_phase s phase revoke = record { state = record { phase = phase; iv = s.iv }; answer = Ok (A.Moved revoke) }
 
 -- "Local start is for phase 0 only"
 unfoldable pub started : SecurityState → Heard
@@ -103,18 +101,18 @@ revoke_value true = 1
 revoke_value false = 0
 
 -- the IV rule's report: 1 is "reset sequence", 2 "recovery wanted"
-abbrev pub report_value : IvReport → ℕ
-report_value I.Nothing = 0
-report_value I.ResetSequence = 1
-report_value I.RecoveryWanted = 2
+abbrev pub report_value : Option IvReport → ℕ
+report_value None = 0
+report_value (Some I.ResetSequence) = 1
+report_value (Some I.RecoveryWanted) = 2
 
 -- the values that a hash adds
-abbrev pub hash_values : Hash → List ℕ
-hash_values H.Nothing = []
-hash_values (H.At place) = place ∷ []
+abbrev pub hash_values : Option ℕ → List ℕ
+hash_values None = []
+hash_values (Some place) = place ∷ []
 
-abbrev pub told : BeaconAnswer → Told
-told (A.Unprovisioned uuid oob hash) = answered "unprovisioned" (uuid ∷ oob ∷ hash_values hash)
-told (A.Secure revoke iv) = answered "secure" (revoke_value revoke ∷ report_value iv ∷ [])
-told (A.Moved revoke) = answered "moved" (revoke_value revoke ∷ [])
-told (A.Refused r) = refused (refusal_number r)
+abbrev pub told : Result BeaconAnswer BeaconRefusal → Told
+told (Ok (A.Unprovisioned uuid oob hash)) = answered "unprovisioned" (uuid ∷ oob ∷ hash_values hash)
+told (Ok (A.Secure revoke iv)) = answered "secure" (revoke_value revoke ∷ report_value iv ∷ [])
+told (Ok (A.Moved revoke)) = answered "moved" (revoke_value revoke ∷ [])
+told (Err r) = refused (refusal_number r)

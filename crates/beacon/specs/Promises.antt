@@ -1,6 +1,6 @@
 -- What is promised of beacons and states beyond each call's contract. The proofs are `proofs/Tables.antt`, of the three tables of answers, and
 -- `proofs/Promises.antt`.
-use Rattle.std.specs.Prelude.{ℕ, ◌+◌, ◌≤◌, Bool, true, false, cond, List, [], ◌∷◌, ◌≡◌, eqb, get_or}
+use Rattle.std.specs.Prelude.{ℕ, ◌+◌, ◌≤◌, Bool, true, false, cond, List, [], ◌∷◌, ◌≡◌, eqb, get_or, Option, Some, None}
 use Rattle.octets.specs.Told.{refused, answered}
 use Rattle.octets.specs.Tables.{ByTable}
 use Rattle.beacon.specs.Rules.{key_wrong, key_rule, iv_rule}
@@ -107,15 +107,15 @@ normal i = record { index = i; updating = false }
 abbrev pub in_progress : ℕ → IvState
 in_progress i = record { index = i; updating = true }
 
-abbrev pub iv_is : IvState → IvReport → IvStep
+abbrev pub iv_is : IvState → Option IvReport → IvStep
 iv_is iv report = record { iv = iv; report = report }
 
 -- state, index received, flag, for every index known
 pub record IvTable (i : ℕ) : Type 0 where
-  pub normal-same : (f : Bool) → iv_rule (normal i) i f ≡ iv_is (normal i) I.Nothing
-  pub normal-next-1 : iv_rule (normal i) (i + 1) true ≡ iv_is (in_progress (i + 1)) I.Nothing
-  pub normal-next-0 : iv_rule (normal i) (i + 1) false ≡ iv_is (normal i) I.Nothing
-  pub normal-later : (n : ℕ) (f : Bool) → iv_rule (normal i) (i + 2 + n) f ≡ iv_is (normal i) I.RecoveryWanted
-  pub progress-same-0 : iv_rule (in_progress i) i false ≡ iv_is (normal i) I.ResetSequence
-  pub progress-same-1 : iv_rule (in_progress i) i true ≡ iv_is (in_progress i) I.Nothing
-  pub progress-later : (n : ℕ) (f : Bool) → iv_rule (in_progress i) (i + 1 + n) f ≡ iv_is (in_progress i) I.RecoveryWanted
+  pub normal-same : (f : Bool) → iv_rule (normal i) i f ≡ iv_is (normal i) None
+  pub normal-next-1 : iv_rule (normal i) (i + 1) true ≡ iv_is (in_progress (i + 1)) None
+  pub normal-next-0 : iv_rule (normal i) (i + 1) false ≡ iv_is (normal i) None
+  pub normal-later : (n : ℕ) (f : Bool) → iv_rule (normal i) (i + 2 + n) f ≡ iv_is (normal i) (Some I.RecoveryWanted)
+  pub progress-same-0 : iv_rule (in_progress i) i false ≡ iv_is (normal i) (Some I.ResetSequence)
+  pub progress-same-1 : iv_rule (in_progress i) i true ≡ iv_is (in_progress i) None
+  pub progress-later : (n : ℕ) (f : Bool) → iv_rule (in_progress i) (i + 1 + n) f ≡ iv_is (in_progress i) (Some I.RecoveryWanted)

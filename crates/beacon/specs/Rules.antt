@@ -1,5 +1,5 @@
 -- The key rule and the IV rule. Neither reads the other's state.
-use Rattle.std.specs.Prelude.{ℕ, ◌+◌, Bool, true, false, ◌&&◌, ◌||◌, not, cond, leb, eqb}
+use Rattle.std.specs.Prelude.{ℕ, ◌+◌, Bool, true, false, ◌&&◌, ◌||◌, not, cond, leb, eqb, Some, None}
 use Rattle.beacon.specs.declared.Key.{Key}
 use Rattle.beacon.specs.declared.Key.TheVariants.{Old, New}
 use Rattle.beacon.specs.declared.Subnet.{Subnet}
@@ -35,8 +35,8 @@ out_of_window i subnet b = not (leb i b) || (leb (i + 43) b || (is_secondary sub
 
 -- no IV change; "recovery wanted" is reported where it is
 abbrev pub recovery_step : IvState → Bool → IvStep
-recovery_step iv true = record { iv = iv; report = I.RecoveryWanted }
-recovery_step iv false = record { iv = iv; report = I.Nothing }
+recovery_step iv true = record { iv = iv; report = Some I.RecoveryWanted }
+recovery_step iv false = record { iv = iv; report = None }
 
 -- "B from I + 2, or in progress from I + 1"
 abbrev pub recovery_from : IvState → ℕ
@@ -46,6 +46,6 @@ recovery_from iv = iv.index + cond iv.updating 1 2
 -- 'recovery wanted', no IV change. Else no change."
 unfoldable pub iv_rule : IvState → ℕ → Bool → IvStep
 iv_rule iv b update =
-    cond (not iv.updating && (eqb b (iv.index + 1) && update)) (record { iv = record { index = b; updating = true }; report = I.Nothing })
-    (cond (iv.updating && (eqb b iv.index && not update)) (record { iv = record { index = iv.index; updating = false }; report = I.ResetSequence })
+    cond (not iv.updating && (eqb b (iv.index + 1) && update)) (record { iv = record { index = b; updating = true }; report = None })
+    (cond (iv.updating && (eqb b iv.index && not update)) (record { iv = record { index = iv.index; updating = false }; report = Some I.ResetSequence })
     (recovery_step iv (leb (recovery_from iv) b)))

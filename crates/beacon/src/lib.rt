@@ -14,6 +14,7 @@ pub struct IvState {
 // The key refresh phase, 0 to 2, and the IV state.
 #[derive(Clone, Copy)]
 pub struct SecurityState {
+    // Stays a number: phase 3 is a state that refusal 14 tells (heard-table).
     pub phase: u8,
     pub iv: IvState,
 }
@@ -25,7 +26,7 @@ pub enum Key {
     New,
 }
 
-#[derive(Clone, Copy)]
+#[derive(Clone, Copy, PartialEq, Eq)]
 pub enum Subnet {
     Primary,
     Secondary,
@@ -34,26 +35,19 @@ pub enum Subnet {
 // What the host says of a beacon.
 #[derive(Clone, Copy)]
 pub struct Hearing {
+    // Stays a flag beside the key: a host may name a key of a beacon that isn't authentic too, and heard-table tells 54 there.
     pub authentic: bool,
     pub key: Key,
     pub subnet: Subnet,
 }
 
-// The place of the URI hash, of 4 octets, if there is one.
-#[derive(Clone, Copy)]
-pub enum Hash {
-    Nothing,
-    At(usize),
-}
-
 #[derive(Clone, Copy)]
 pub enum IvReport {
-    Nothing,
     ResetSequence,
     RecoveryWanted,
 }
 
-#[derive(Clone, Copy)]
+#[derive(Clone, Copy, Debug, PartialEq, Eq)]
 pub enum BeaconRefusal {
     BadState,
     Empty,
@@ -67,25 +61,35 @@ pub enum BeaconRefusal {
 
 #[derive(Clone, Copy)]
 pub enum BeaconAnswer {
-    // Type 0: the UUID's 16 octets stand from place uuid on.
-    Unprovisioned { uuid: usize, oob: u16, hash: Hash },
-    // Type 1: whether the old key is to be revoked, and what the IV rule reports.
-    Secure { revoke: bool, iv: IvReport },
+    // Type 0: the UUID's 16 octets stand from place uuid on, and the URI hash's 4 from place hash on, if there is one.
+    Unprovisioned {
+        uuid: usize,
+        oob: u16,
+        hash: Option<usize>,
+    },
+    // Type 1: whether the old key is to be revoked, and what the IV rule reports, if it does.
+    Secure {
+        revoke: bool,
+        iv: Option<IvReport>,
+    },
     // A local call moved the phase.
-    Moved { revoke: bool },
-    Refused(BeaconRefusal),
+    Moved {
+        revoke: bool,
+    },
 }
 
 // The state after a call, and its answer.
+// A record of its own, as each call's: one generic record of a state and an answer would call it by one name with all others, and be no plainer.
 #[derive(Clone, Copy)]
 pub struct Heard {
     pub state: SecurityState,
-    pub answer: BeaconAnswer,
+    pub answer: Result<BeaconAnswer, BeaconRefusal>,
 }
 
 // What the key rule gives.
 #[derive(Clone, Copy)]
 pub struct KeyStep {
+    // A number, as that of the state that it becomes.
     pub phase: u8,
     pub revoke: bool,
 }
@@ -94,7 +98,7 @@ pub struct KeyStep {
 #[derive(Clone, Copy)]
 pub struct IvStep {
     pub iv: IvState,
-    pub report: IvReport,
+    pub report: Option<IvReport>,
 }
 
 impl SecurityState {
@@ -104,7 +108,7 @@ impl SecurityState {
     {
         Heard {
             state: self,
-            answer: BeaconAnswer::Refused(refusal),
+            answer: Err(refusal),
         }
     }
 }

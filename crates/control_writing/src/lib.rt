@@ -6,7 +6,7 @@ ghost use Rattle.octets.specs.Writing.{written, output_after};
 ghost use Rattle.pb_adv.specs.Frame.{open_octets, ack_octets, close_octets, is_uuid};
 
 use frame_writing::write_frame;
-use octets::Written;
+use octets::{Written, WrongArgument};
 use transactions::TransactionNumber;
 
 // Writes an Open with a device's UUID.
@@ -15,7 +15,7 @@ pub fn write_open(id: u32, uuid: &[u8], output: &mut [u8]) -> Written
         × (output.new ≡ output_after (is_uuid uuid.now) (open_octets id uuid.now) output.old) }
 {
     if uuid.len() != 16 {
-        return Written::WrongArgument;
+        return Err(WrongArgument);
     }
     write_frame(output, id, TransactionNumber(0), 3, uuid, b"")
 }

@@ -1,5 +1,10 @@
 -- Laws between the definitions of `links` and the calls of a device's one record.
 use Prim.Native.Nat.{ℕ, ◌+◌, ◌≤◌}
+use Rattle.links.specs.declared.Answer.{Answer}
+use Rattle.links.specs.declared.Refusal.{Refusal}
+use Rattle.pb_adv.specs.declared.Frame.{Frame}
+use Rattle.pb_adv.specs.declared.FrameRefusal.{FrameRefusal}
+use Rattle.std.specs.Prelude.{Result, Ok}
 use native.Mathlib.Omega.{arith}
 use mathlib.Core.Bool.{Bool, true, false, ◌&&◌, not, false≢true}
 use mathlib.Core.List.{List, [], ◌∷◌}
@@ -14,8 +19,7 @@ use Rattle.octets.proofs.Parts.{same-part-fits}
 use Rattle.octets.proofs.Tests.{cases, both_hold}
 use Rattle.pb_adv.specs.Frame.{link_id, kind_of, high_bits, parsed}
 use Rattle.pb_adv.specs.Tables.{is_kind, is_control, malformed, body_fits}
-use Rattle.pb_adv.specs.declared.Parsed.{Parsed}
-use Rattle.pb_adv.specs.declared.Parsed.TheVariants as P
+use Rattle.pb_adv.specs.declared.Frame.TheVariants as P
 use Rattle.pb_adv.proofs.Tables.{IsFrame, start, acknowledgement, continuation, opens, acks, closes, Reads, no-frame, unknown, frame, reads}
 use Rattle.links.specs.Links.{device, has_id, in_use}
 use Rattle.links.specs.Good.{good, good_link}
@@ -24,7 +28,6 @@ use Rattle.links.specs.Device.{device_of, heard}
 use Rattle.links.specs.declared.Side.TheVariants.{Device}
 use Rattle.links.specs.declared.Link.{Link}
 use Rattle.links.specs.declared.Refusal.TheVariants as R
-use Rattle.links.specs.declared.Answer.{Answer}
 use Rattle.links.proofs.Device.{get-one, put_one, good-one, find-one, find_none, right-record}
 use Rattle.links.proofs.Promises.{open-part}
 use Rattle.link_steps.specs.Calls.{one_link, stepped_of, record_stepped, link_received}
@@ -36,7 +39,7 @@ use Rattle.device.specs.Calls.{only_socket, record_back}
 
 module _ (f : List ℕ) where
   -- the UUID of an Open stands in its frame
-  pub open-fits : (id uuid : ℕ) → parsed f ≡ P.Open id uuid → uuid + 16 ≤ length f
+  pub open-fits : (id uuid : ℕ) → parsed f ≡ Ok (P.Open id uuid) → uuid + 16 ≤ length f
   open-fits id uuid = of (parsed f) (reads f)
     where
       whole : malformed f ≡ false → kind_of f ≡ 3 → high_bits f ≡ 0 → length f ≡ 22
@@ -48,7 +51,7 @@ module _ (f : List ℕ) where
           not-false true e = refl
           not-false false e = absurd (false≢true (sym e))
 
-      by-frame : (p : Parsed) → IsFrame f p → malformed f ≡ false → p ≡ P.Open id uuid → uuid + 16 ≤ length f
+      by-frame : (p : Result Frame FrameRefusal) → IsFrame f p → malformed f ≡ false → p ≡ Ok (P.Open id uuid) → uuid + 16 ≤ length f
       by-frame p (start k s) m e = let z : ◌≡◌ {A = ℕ} 0 1 = cc in absurd (omega arith)
       by-frame p (acknowledgement k) m e = let z : ◌≡◌ {A = ℕ} 0 1 = cc in absurd (omega arith)
       by-frame p (continuation k h) m e = let z : ◌≡◌ {A = ℕ} 0 1 = cc in absurd (omega arith)
@@ -56,16 +59,16 @@ module _ (f : List ℕ) where
       by-frame p (acks k h) m e = let z : ◌≡◌ {A = ℕ} 0 1 = cc in absurd (omega arith)
       by-frame p (closes k h) m e = let z : ◌≡◌ {A = ℕ} 0 1 = cc in absurd (omega arith)
 
-      of : (p : Parsed) → Reads f p → p ≡ P.Open id uuid → uuid + 16 ≤ length f
+      of : (p : Result Frame FrameRefusal) → Reads f p → p ≡ Ok (P.Open id uuid) → uuid + 16 ≤ length f
       of p (no-frame m) e = let z : ◌≡◌ {A = ℕ} 0 1 = cc in absurd (omega arith)
       of p (unknown m n) e = let z : ◌≡◌ {A = ℕ} 0 1 = cc in absurd (omega arith)
       of p (frame m n r) e = by-frame p r m e
 
   -- another kind of frame
-  pub not-open : ((id uuid : ℕ) → parsed f ≡ P.Open id uuid → ⊥) → malformed f ≡ false → is_control 0 f ≡ false
+  pub not-open : ((id uuid : ℕ) → parsed f ≡ Ok (P.Open id uuid) → ⊥) → malformed f ≡ false → is_control 0 f ≡ false
   not-open h fits = of (parsed f) (reads f) h
     where
-      by-frame : (p : Parsed) → IsFrame f p → ((id uuid : ℕ) → p ≡ P.Open id uuid → ⊥) → is_control 0 f ≡ false
+      by-frame : (p : Result Frame FrameRefusal) → IsFrame f p → ((id uuid : ℕ) → p ≡ Ok (P.Open id uuid) → ⊥) → is_control 0 f ≡ false
       by-frame p (start k s) h = rw k
       by-frame p (acknowledgement k) h = rw k
       by-frame p (continuation k s) h = rw k
@@ -73,7 +76,7 @@ module _ (f : List ℕ) where
       by-frame p (acks k s) h = rw (k, s)
       by-frame p (closes k s) h = rw (k, s)
 
-      of : (p : Parsed) → Reads f p → ((id uuid : ℕ) → p ≡ P.Open id uuid → ⊥) → is_control 0 f ≡ false
+      of : (p : Result Frame FrameRefusal) → Reads f p → ((id uuid : ℕ) → p ≡ Ok (P.Open id uuid) → ⊥) → is_control 0 f ≡ false
       of p (no-frame m) h = absurd (false≢true (sym fits ∙ m))
       of p (unknown m n) h =
           let u = both_hold {a = is_kind 3 f} {b = leb 3 (high_bits f)} n in
@@ -112,7 +115,7 @@ module _ (own : List ℕ) (l : Link) (area f : List ℕ) (uuid : length own ≡ 
       (λ e. rw e (cases (in_use l.state) (λ u. rw u (cases (eqb l.id id) (λ q. rw q) (λ q. rw q))) (λ u. rw u)))
       (λ e. rw e)
 
-  pub heard-open : (id at : ℕ) → parsed f ≡ P.Open id at
+  pub heard-open : (id at : ℕ) → parsed f ≡ Ok (P.Open id at)
       → heard own l area f ≡ ((open_step own (one_link l []) f id at).0, device_of (open_step own (one_link l []) f id at).1.link area)
   heard-open id at e =
       let r = open_step own (one_link l area) f id at in
@@ -127,7 +130,7 @@ own-compared own f at n h = same-part-fits f at own 0 16 h (omega arith) ∙ ap 
 
 -- ---- the local calls: 11 and 14, and the step of the record
 
-module _ (l : Link) (step : Answer × Link) where
+module _ (l : Link) (step : Result Answer Refusal × Link) where
   pub judged-wrong : record_back (judged Device (l ∷ []) false (at_record (l ∷ []) only_socket step)) ≡ link_refused l R.WrongArgument
   judged-wrong = refl
 

@@ -14,7 +14,7 @@ use link_records::blank_with;
 use link_steps::{Stepped, refuse_link};
 use links::{Answer, Link, LinkState, Refusal, Side};
 use octets::LONGEST_MESSAGE;
-use pb_adv::Parsed;
+use pb_adv::Frame;
 
 // The octets of the area: those of a longest message.
 pub const AREA_LENGTH: usize = LONGEST_MESSAGE;
@@ -34,23 +34,22 @@ fn on_open(link: Link, own: &[u8], frame: &[u8], id: u32, uuid: usize) -> Steppe
     requires { (length own.now ≡ 16) × (uuid + 16 ≤ length frame.now) }
     ensures { result ≡ stepped_of (open_step own.now (one_link link []) frame.now id uuid) }
 {
-    if octet_parts::same_part(frame, uuid, own, 0, UUID_LENGTH) {
-        let state = link.state;
-        if link_fields::is_in_use(state) {
-            if link.id == id {
-                return Stepped {
-                    link: link,
-                    answer: Answer::Already,
-                };
-            }
-            return refuse_link(link, Refusal::Busy);
-        }
+    if !octet_parts::same_part(frame, uuid, own, 0, UUID_LENGTH) {
+        return refuse_link(link, Refusal::OtherUuid);
+    }
+    if !link_fields::is_in_use(link.state) {
         return Stepped {
             link: blank_with(Side::Device, LinkState::Open, id),
-            answer: Answer::Opened,
+            answer: Ok(Answer::Opened),
         };
     }
-    refuse_link(link, Refusal::OtherUuid)
+    if link.id != id {
+        return refuse_link(link, Refusal::Busy);
+    }
+    Stepped {
+        link,
+        answer: Ok(Answer::Already),
+    }
 }
 
 // Receives a frame: 11 unless the area has AREA_LENGTH octets and the own UUID UUID_LENGTH.
@@ -64,35 +63,37 @@ pub fn receive(link: Link, own: &[u8], area: &mut [u8], frame: &[u8]) -> Stepped
     if area.len() != AREA_LENGTH {
         return refuse_link(link, Refusal::WrongArgument);
     }
-    if link_state::is_good_link(Side::Device, link) {
-        let parsed = pb_adv::parse(frame);
-        let Parsed::Open { id, uuid } = parsed else {
-            return link_steps::receive(Side::Device, link, area, frame);
-        };
-        return on_open(link, own, frame, id, uuid);
+    if !link_state::is_good_link(Side::Device, link) {
+        return refuse_link(link, Refusal::BadState);
     }
-    refuse_link(link, Refusal::BadState)
+    // In two steps: of one pattern for both nothing is known where it does not match.
+    if let Ok(parsed) = pb_adv::parse(frame) {
+        if let Frame::Open { id, uuid } = parsed {
+            return on_open(link, own, frame, id, uuid);
+        }
+    }
+    link_steps::receive(Side::Device, link, area, frame)
 }
 
 // Begins to send a message of so many octets: its number and SegN.
 pub fn send(link: Link, length: usize) -> Stepped
     ensures { result ≡ record_back (local_send Device (link ∷ []) only_socket length) }
 {
-    if octets::is_length(length) {
-        if link_state::is_good_link(Side::Device, link) {
-            return link_steps::send(link, length as u16);
-        }
+    if !octets::is_length(length) {
+        return refuse_link(link, Refusal::WrongArgument);
+    }
+    if !link_state::is_good_link(Side::Device, link) {
         return refuse_link(link, Refusal::BadState);
     }
-    refuse_link(link, Refusal::WrongArgument)
+    link_steps::send(link, length as u16)
 }
 
 // Closes the link.
 pub fn close(link: Link) -> Stepped
     ensures { result ≡ record_back (local_close Device (link ∷ []) only_socket) }
 {
-    if link_state::is_good_link(Side::Device, link) {
-        return link_steps::close(Side::Device, link);
+    if !link_state::is_good_link(Side::Device, link) {
+        return refuse_link(link, Refusal::BadState);
     }
-    refuse_link(link, Refusal::BadState)
+    link_steps::close(Side::Device, link)
 }

@@ -14,10 +14,8 @@ fn octet_step(remainder: u8, octet: u8) -> u8
     ensures { result ≡ octet_step remainder octet }
 {
     let mut x = remainder ^ octet;
-    let mut done: u8 = 0;
-    while done < 8 {
+    for _ in 0..8u8 {
         x = bit_step(x);
-        done += 1;
     }
     x
 }
@@ -26,13 +24,9 @@ fn octet_step(remainder: u8, octet: u8) -> u8
 fn remainder_after(start: u8, octets: &[u8]) -> u8
     ensures { result ≡ remainder start octets.now }
 {
-    let mut r = start;
-    let mut i = 0;
-    while i < octets.len() {
-        r = octet_step(r, octets[i]);
-        i += 1;
-    }
-    r
+    octets
+        .iter()
+        .fold(start, |remainder, octet| octet_step(remainder, *octet))
 }
 
 // The remainder of a message, and of nothing else.

@@ -18,6 +18,7 @@ use Rattle.filter_messages.specs.declared.FilterType.{FilterType}
 use Rattle.filter_messages.specs.declared.FilterType.TheVariants.{AcceptList, RejectList}
 use Rattle.filter_messages.specs.declared.Change.{Change}
 use Rattle.filter_messages.specs.declared.Change.TheVariants.{Add, Remove}
+use Rattle.std.specs.Prelude.{Result, Ok, Err}
 use Rattle.filter_messages.specs.declared.Request.{Request}
 use Rattle.filter_messages.specs.declared.Request.TheVariants as Q
 use Rattle.filter_messages.specs.declared.FilterRefusal.{FilterRefusal}
@@ -28,10 +29,10 @@ opcode_of Add = 1
 opcode_of Remove = 2
 
 -- what a message asks for, by the rows of its refusals, its opcode and its type
-pub data Asks (m : List ℕ) : Request → Type 0 where
-  refuses : (r : FilterRefusal) → first_of (message_refusals m) ≡ some (refused (refusal_number r)) → Asks m (Q.Refused r)
-  sets : (kind : FilterType) → first_of (message_refusals m) ≡ none → get_or m 0 0 ≡ 0 → get_or m 1 0 ≡ type_number kind → Asks m (Q.SetType kind)
-  changes : (c : Change) → first_of (message_refusals m) ≡ none → get_or m 0 0 ≡ opcode_of c → Asks m (Q.Change c)
+pub data Asks (m : List ℕ) : Result Request FilterRefusal → Type 0 where
+  refuses : (r : FilterRefusal) → first_of (message_refusals m) ≡ some (refused (refusal_number r)) → Asks m (Err r)
+  sets : (kind : FilterType) → first_of (message_refusals m) ≡ none → get_or m 0 0 ≡ 0 → get_or m 1 0 ≡ type_number kind → Asks m (Ok (Q.SetType kind))
+  changes : (c : Change) → first_of (message_refusals m) ≡ none → get_or m 0 0 ≡ opcode_of c → Asks m (Ok (Q.Change c))
 
 asks-type : (m : List ℕ) → eqb (length m) 0 ≡ false → get_or m 0 0 ≡ 0 → Asks m (type_of m)
 unfolding type_of
@@ -70,7 +71,7 @@ asks m =
     (λ g. rw g (refuses R.UnknownOpcode
     (rw (l, lt-ltb 2 (get_or m 0 0) (omega (arith, eqb-false (get_or m 0 0) 0 z, eqb-false (get_or m 0 0) 1 f, eqb-false (get_or m 0 0) 2 g))))))))))))
 
-first-row : (m : List ℕ) (q : Request) → Asks m q → first_of (request_rows m) ≡ some (request_told q)
+first-row : (m : List ℕ) (q : Result Request FilterRefusal) → Asks m q → first_of (request_rows m) ≡ some (request_told q)
 first-row m q (refuses r e) = first-before (message_refusals m) (requests m) (refused (refusal_number r)) e
 first-row m q (sets kind e o t) = first-behind (message_refusals m) (requests m) e ∙ rw (o, t)
 first-row m q (changes Add e o) = first-behind (message_refusals m) (requests m) e ∙ rw o

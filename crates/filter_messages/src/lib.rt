@@ -2,9 +2,7 @@
 #![tactic(auto)]
 
 ghost use Rattle.std.specs.Prelude.{◌≡◌, ◌<◌, length};
-ghost use Rattle.filter_messages.specs.Messages.{type_of, change_of, request_of, status_octets};
-
-use octets::octet_at;
+ghost use Rattle.filter_messages.specs.Messages.{type_number, type_numbered, type_of, change_of, request_of, status_octets};
 
 #[derive(Clone, Copy)]
 pub enum FilterType {
@@ -19,7 +17,7 @@ pub enum Change {
     Remove,
 }
 
-#[derive(Clone, Copy)]
+#[derive(Clone, Copy, Debug, PartialEq, Eq)]
 pub enum FilterRefusal {
     BadState,
     Empty,
@@ -34,72 +32,84 @@ pub enum FilterRefusal {
 pub enum Request {
     SetType(FilterType),
     Change(Change),
-    Refused(FilterRefusal),
 }
 
+// A filter's type, and how many addresses it holds.
 #[derive(Clone, Copy)]
-pub enum FilterAnswer {
-    Status { kind: FilterType, count: u8 },
-    Refused(FilterRefusal),
+pub struct Status {
+    pub kind: FilterType,
+    pub count: u8,
+}
+
+// The octet of a type.
+impl From<FilterType> for u8 {
+    ghost from_gives = { λ kind octet. octet ≡ type_number kind };
+
+    fn from(kind: FilterType) -> u8 {
+        match kind {
+            FilterType::AcceptList => 0,
+            FilterType::RejectList => 1,
+        }
+    }
+}
+
+// The type of an octet.
+impl TryFrom<u8> for FilterType {
+    type Error = FilterRefusal;
+
+    ghost try_from_gives = { λ octet kind. kind ≡ type_numbered octet };
+
+    fn try_from(octet: u8) -> Result<Self, FilterRefusal> {
+        match octet {
+            0 => Ok(FilterType::AcceptList),
+            1 => Ok(FilterType::RejectList),
+            _ => Err(FilterRefusal::UnknownType),
+        }
+    }
 }
 
 // What a message to set the type asks for.
-fn type_of(message: &[u8]) -> Request
-    requires { 0 < length message.now }
+fn type_of(message: &[u8]) -> Result<Request, FilterRefusal>
     ensures { result ≡ type_of message.now }
 {
-    if message.len() - 1 == 1 {
-        let kind = octet_at(message, 1);
-        if kind == 0 {
-            return Request::SetType(FilterType::AcceptList);
-        }
-        if kind == 1 {
-            return Request::SetType(FilterType::RejectList);
-        }
-        return Request::Refused(FilterRefusal::UnknownType);
-    }
-    Request::Refused(FilterRefusal::WrongLength)
+    let [_, octet] = *message else {
+        return Err(FilterRefusal::WrongLength);
+    };
+    let kind = FilterType::try_from(octet)?;
+    Ok(Request::SetType(kind))
 }
 
 // What a message to add or to remove addresses asks for.
-fn change_of(change: Change, message: &[u8]) -> Request
+fn change_of(change: Change, message: &[u8]) -> Result<Request, FilterRefusal>
     requires { 0 < length message.now }
     ensures { result ≡ change_of change message.now }
 {
-    if message.len() - 1 <= 32 {
-        if (message.len() - 1) % 2 == 0 {
-            return Request::Change(change);
-        }
+    let octets = message.len() - 1;
+    if octets <= 32 && octets % 2 == 0 {
+        Ok(Request::Change(change))
+    } else {
+        Err(FilterRefusal::WrongLength)
     }
-    Request::Refused(FilterRefusal::WrongLength)
 }
 
 // What a message asks for.
-pub fn request_of(message: &[u8]) -> Request
+pub fn request_of(message: &[u8]) -> Result<Request, FilterRefusal>
     ensures { result ≡ request_of message.now }
 {
-    if message.len() == 0 {
-        return Request::Refused(FilterRefusal::Empty);
+    if message.is_empty() {
+        return Err(FilterRefusal::Empty);
     }
-    let opcode = octet_at(message, 0);
-    if opcode == 0 {
-        return type_of(message);
+    match message[0] {
+        0 => type_of(message),
+        1 => change_of(Change::Add, message),
+        2 => change_of(Change::Remove, message),
+        _ => Err(FilterRefusal::UnknownOpcode),
     }
-    if opcode == 1 {
-        return change_of(Change::Add, message);
-    }
-    if opcode == 2 {
-        return change_of(Change::Remove, message);
-    }
-    Request::Refused(FilterRefusal::UnknownOpcode)
 }
 
 // The four octets of a filter status message.
 pub fn status_octets(kind: FilterType, count: u8) -> [u8; 4]
     ensures { result ≡ status_octets kind count }
 {
-    match kind {
-        FilterType::AcceptList => [3, 0, 0, count],
-        FilterType::RejectList => [3, 1, 0, count],
-    }
+    [3, kind.into(), 0, count]
 }

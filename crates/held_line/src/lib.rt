@@ -1,11 +1,12 @@
 // A line of input of any length, held in 64 characters so that it is imported as the whole line would be.
 #![tactic(auto)]
 
-ghost use Rattle.std.specs.Prelude.{false, cond, ◌≡◌, ◌≤◌, length};
-ghost use Rattle.held_line.specs.Held.{is_digit, full_count, full_buffer, count_after, buffer_after};
-ghost use Rattle.held_line.specs.Lines.{empty_line, held_piece, settled, begun};
+ghost use Rattle.std.specs.Prelude.{true, false, ◌≡◌, ◌≤◌, length};
+ghost use Rattle.held_line.specs.Held.{is_digit};
+ghost use Rattle.held_line.specs.Lines.{empty_line, held_if, held_character, held_piece, settled, begun};
 
 // The line so far.
+// Stays an array with a count beside: the record is copied whole, and what `held_piece` says is promised for every record, also one whose count is over 64.
 #[derive(Clone, Copy)]
 pub struct HeldLine {
     pub characters: [u8; 64],
@@ -21,49 +22,44 @@ fn is_digit(character: u8) -> bool
     hexadecimal::value(character) <= 15
 }
 
-// One character more behind 64.
-fn hold_full(line: &mut [u8], character: u8) -> usize
-    requires { length line.old ≡ 64 }
-    ensures { (result ≡ full_count line.old character)
-        × (line.new ≡ full_buffer line.old character) }
-{
-    if is_digit(line[63]) {
-        if is_digit(character) {
-            return 63;
+impl HeldLine {
+    // Holds one character more. Behind 64 a digit after digits takes one away, so that their number stays even or odd.
+    fn hold(&mut self, character: u8)
+        ensures { self.new ≡ held_if self.old true character }
+    {
+        self.returned = false;
+        if self.count < 64 {
+            self.characters[self.count] = character;
+            self.count += 1;
+        } else if self.count == 64 && is_digit(self.characters[63]) {
+            if is_digit(character) {
+                self.count = 63;
+            } else {
+                self.characters[63] = character;
+            }
         }
-        line[63] = character;
-        return 64;
     }
-    64
-}
 
-// Holds one character more of a line, of which so many characters are held at the start of the buffer; how many are held then.
-fn hold(line: &mut [u8], held: usize, character: u8) -> usize
-    ensures { (result ≡ count_after line.old held character)
-        × (line.new ≡ buffer_after line.old held character) }
-{
-    if line.len() != 64 {
-        return held;
+    // Holds a carriage return that came last.
+    fn hold_return(&mut self)
+        ensures { self.new ≡ settled self.old }
+    {
+        if self.returned {
+            self.hold(b'\r');
+        }
     }
-    if 64 < held {
-        return held;
-    }
-    if held == 64 {
-        return hold_full(line, character);
-    }
-    line[held] = character;
-    held + 1
-}
 
-// The same where the character is wanted; else nothing changes.
-fn hold_if(line: &mut [u8], held: usize, wanted: bool, character: u8) -> usize
-    ensures { (result ≡ cond wanted (count_after line.old held character) held)
-        × (line.new ≡ cond wanted (buffer_after line.old held character) line.old) }
-{
-    if wanted {
-        return hold(line, held, character);
+    // Takes one character more: a carriage return isn't held yet.
+    fn take(&mut self, character: u8)
+        ensures { self.new ≡ held_character self.old character }
+    {
+        self.hold_return();
+        if character == b'\r' {
+            self.returned = true;
+        } else {
+            self.hold(character);
+        }
     }
-    held
 }
 
 pub fn empty_line() -> HeldLine
@@ -77,24 +73,13 @@ pub fn empty_line() -> HeldLine
 }
 
 // Holds a piece more of a line, character by character.
-fn hold_each(line: HeldLine, piece: &[u8]) -> HeldLine
+fn hold_each(mut line: HeldLine, piece: &[u8]) -> HeldLine
     ensures { result ≡ held_piece line piece.now }
 {
-    let mut characters = line.characters;
-    let mut count = line.count;
-    let mut returned = line.returned;
-    let mut i = 0;
-    while i < piece.len() {
-        count = hold_if(&mut characters, count, returned, b'\r');
-        returned = piece[i] == b'\r';
-        count = hold_if(&mut characters, count, !returned, piece[i]);
-        i += 1;
+    for character in piece {
+        line.take(*character);
     }
-    HeldLine {
-        characters: characters,
-        count: count,
-        returned: returned,
-    }
+    line
 }
 
 // The same by one copy: the piece is the first of its line, and short.
@@ -112,9 +97,9 @@ fn hold_short(line: HeldLine, piece: &[u8]) -> HeldLine
     let mut characters = line.characters;
     octet_parts::copy(&mut characters, 0, piece, 0, count);
     HeldLine {
-        characters: characters,
-        count: count,
-        returned: returned,
+        characters,
+        count,
+        returned,
     }
 }
 
@@ -122,26 +107,22 @@ fn hold_short(line: HeldLine, piece: &[u8]) -> HeldLine
 pub fn hold_piece(line: HeldLine, piece: &[u8]) -> HeldLine
     ensures { result ≡ held_piece line piece.now }
 {
-    if (line.count == 0) & (!line.returned & (piece.len() <= 64)) {
+    if line.count == 0 && !line.returned && piece.len() <= 64 {
         return hold_short(line, piece);
     }
     hold_each(line, piece)
 }
 
 // At the end of input a carriage return is part of the line.
-pub fn settle(line: HeldLine) -> HeldLine
+pub fn settle(mut line: HeldLine) -> HeldLine
     ensures { result ≡ settled line }
 {
-    let mut characters = line.characters;
-    let count = hold_if(&mut characters, line.count, line.returned, b'\r');
-    HeldLine {
-        characters: characters,
-        count: count,
-        returned: false,
-    }
+    line.hold_return();
+    line
 }
 
 // Not 0 where the line so far has characters.
+// Stays a number: docs/PROMISES.md promises it as one, and it goes to `lines::is_whole`, which takes a number of characters.
 pub fn begun(line: HeldLine) -> usize
     ensures { result ≡ begun line }
 {

@@ -12,13 +12,11 @@ use borrow.Author.Tests.{leb-true, leb-false, eqb-true, le-leb, lt-leb}
 use Rattle.octets.specs.Parts.{write}
 use Rattle.octets.specs.Cut.{up_to, joined}
 use Rattle.octets.specs.Writing.{told as writer_told, written, output_after}
-use Rattle.octets.specs.declared.Written.TheVariants.{Count, WrongArgument}
 use Rattle.octets.proofs.Parts.{write-octet, write-next, write-front}
 use Rattle.octets.proofs.Cut.{joined-up-to}
 use Rattle.octets.proofs.Tests.{cases, both_hold, holds-both}
 use Rattle.octets.proofs.Writing.{written-fits, wrote}
 use Rattle.hexadecimal.specs.Hex.{is_hexadecimal, octets_of, text_of, decoded_of, decoded_output, encoded_output}
-use Rattle.hexadecimal.specs.declared.Decoded.TheVariants.{Octets}
 use Rattle.hexadecimal.proofs.Laws.{length-text, length-octets, encoded-fits}
 use Rattle.transactions.specs.Segments.{seg_n, segment_place}
 use Rattle.pb_adv_writing.specs.Writing.{segment_frame, header_of, is_segment, SegmentAsked}
@@ -27,6 +25,8 @@ use Rattle.transactions.proofs.Laws.{seg_n-enough, segment-begins}
 use Rattle.pb_adv_writing.proofs.Laws.{frame-long}
 use Rattle.hex_lines.specs.Lines.{is_message, frame_line, message_text}
 use Rattle.hex_lines.specs.Steps.{segment_line, first_lines}
+use Rattle.std.specs.Prelude.{Ok, Err}
+use Rattle.octets.specs.Writing.{wrong_argument}
 
 -- ---- a line at its place
 
@@ -102,13 +102,13 @@ module _ (t : TransactionNumber) {m : List ℕ} {k : ℕ} (asked : SegmentAsked 
   right : is_segment m k ≡ true
   right = holds-both (holds-both (le-leb 1 (length m) asked.some-octets) (le-leb (length m) 1469 asked.few-octets)) (le-leb k (seg_n (length m)) asked.index)
 
-  frame-written : written (is_segment m k) (segment_frame 1 t m k) frame_room ≡ Count (length (segment_frame 1 t m k))
+  frame-written : written (is_segment m k) (segment_frame 1 t m k) frame_room ≡ Ok (length (segment_frame 1 t m k))
   frame-written = rw right (written-fits (segment_frame 1 t m k) frame_room (frame_small t m k))
 
-  pub frame-some : written (is_segment m k) (segment_frame 1 t m k) frame_room ≡ WrongArgument → ⊥
+  pub frame-some : written (is_segment m k) (segment_frame 1 t m k) frame_room ≡ Err wrong_argument → ⊥
   frame-some e = let z : ◌≡◌ {A = ℕ} 0 1 = cc frame-written in omega arith
 
-  pub frame-count : {n : ℕ} → written (is_segment m k) (segment_frame 1 t m k) frame_room ≡ Count n → n ≡ length (segment_frame 1 t m k)
+  pub frame-count : {n : ℕ} → written (is_segment m k) (segment_frame 1 t m k) frame_room ≡ Ok n → n ≡ length (segment_frame 1 t m k)
   frame-count e = cc frame-written
 
   pub frame-front : take (length (segment_frame 1 t m k)) (output_after (is_segment m k) (segment_frame 1 t m k) frame_room) ≡ segment_frame 1 t m k
@@ -121,7 +121,7 @@ message_room = replicate 1469 0
 
 module _ (line : List ℕ) where
   -- anything but octets: the line is no message
-  pub read_none : ((n : ℕ) → decoded_of line message_room ≡ Octets n → ⊥) → is_message line ≡ false
+  pub read_none : ((n : ℕ) → decoded_of line message_room ≡ Ok n → ⊥) → is_message line ≡ false
   unfolding decoded_of
   read_none h =
       cases (is_hexadecimal line)
@@ -130,13 +130,13 @@ module _ (line : List ℕ) where
       rw (p, le-leb 2 (length line) (omega arith), lt-leb (length line) 2938 (omega arith))))
       (λ p. rw p)
 
-  module _ {n : ℕ} (e : decoded_of line message_room ≡ Octets n) where
+  module _ {n : ℕ} (e : decoded_of line message_room ≡ Ok n) where
     read-octets : (is_hexadecimal line ≡ true) × (n ≡ length line / 2) × (n ≤ 1469)
     unfolding decoded_of
     read-octets =
         cases (is_hexadecimal line)
         (λ p. cases (leb (length line / 2) 1469)
-        (λ q. let r : Octets n ≡ Octets (length line / 2) = sym (rw (p, q) at e) in
+        (λ q. let r : Ok n ≡ Ok (length line / 2) = sym (rw (p, q) at e) in
         let k : n ≡ length line / 2 = cc in
         (p, k, omega (arith, leb-true (length line / 2) 1469 q)))
         (λ q. let z : ◌≡◌ {A = ℕ} 0 1 = cc (rw (p, q) at e) in absurd (omega arith)))

@@ -10,8 +10,6 @@ use lib.Seq.{length-take-le, take_all}
 use borrow.Author.Tests.{leb-true, leb-false, le-leb, lt-leb, not-true, not-false}
 use Rattle.octets.specs.Told.{refused}
 use Rattle.octets.specs.Writing.{told as writer_told, written}
-use Rattle.octets.specs.declared.Written.{Written}
-use Rattle.octets.specs.declared.Written.TheVariants.{Count, WrongArgument}
 use Rattle.octets.proofs.Tables.{by-table}
 use Rattle.octets.proofs.Tests.{cases, both_hold, lt_not_le}
 use Rattle.octets.proofs.Writing.{refusal-keeps as writer-keeps}
@@ -23,6 +21,8 @@ use Rattle.transactions.proofs.Laws.{seg_n-small}
 use Rattle.hex_lines.specs.Lines.{is_message, message_text, refused_text, line_text, line_next, told, with_next, line_written}
 use Rattle.hex_lines.specs.Promises.{line_rows, LineTable, RefusalKeeps, is_none, AllLinesWrite, Enough, FrontDoesTheSame}
 use Rattle.hex_lines.proofs.Laws.{text-long}
+use Rattle.std.specs.Prelude.{Result, Ok, Err}
+use Rattle.octets.specs.declared.WrongArgument.{WrongArgument}
 
 pub line-table : LineTable
 unfolding written
@@ -31,9 +31,9 @@ line-table t line output =
     (rw (lt_not_le (length output) (length (line_text t line))) (cases (leb (length (line_text t line)) (length output)) (λ e. rw e) (λ e. rw e)))
 
 -- the next number takes nothing from a refusal
-refused-writer : (w : Written) (next : TransactionNumber) (n : ℕ) → told (with_next w next) ≡ refused n → writer_told w ≡ refused n
-refused-writer (Count k) next n e = let z : ◌≡◌ {A = ℕ} 0 1 = cc in absurd (omega arith)
-refused-writer WrongArgument next n e = e
+refused-writer : (w : Result ℕ WrongArgument) (next : TransactionNumber) (n : ℕ) → told (with_next w next) ≡ refused n → writer_told w ≡ refused n
+refused-writer (Ok k) next n e = let z : ◌≡◌ {A = ℕ} 0 1 = cc in absurd (omega arith)
+refused-writer (Err r) next n e = e
 
 pub refusal-keeps : RefusalKeeps
 refusal-keeps t line output n e =

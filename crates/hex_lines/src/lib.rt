@@ -8,21 +8,18 @@ ghost use Rattle.transactions.specs.Numbers.{number_after};
 ghost use Rattle.hex_lines.specs.Lines.{message_text, refused_text, with_next, line_written, line_output};
 ghost use Rattle.hex_lines.specs.Steps.{segment_line, LineAsked};
 
-use hexadecimal::Decoded;
-use octets::Written;
 use transactions::TransactionNumber;
 
-// The answer to a line.
+// What a line wrote: the length of its text, which stands at the start of the output, and the number of the next message.
 #[derive(Clone, Copy)]
-pub enum LineWritten {
-    // The length of its text, which stands at the start of the output, and the number of the next message.
-    Text {
-        length: usize,
-        next: TransactionNumber,
-    },
-    // Refusal 11: the output is shorter than the text, and as it was. MOST octets are enough for any line.
-    OutputTooShort,
+pub struct LineText {
+    pub length: usize,
+    pub next: TransactionNumber,
 }
+
+// Refusal 11: the output is shorter than the text, and as it was. MOST octets are enough for any line.
+#[derive(Clone, Copy, Debug, PartialEq, Eq)]
+pub struct OutputTooShort;
 
 // The longest text of a line: 64 frames of 1,856 octets in all, two digits an octet and a newline a frame.
 pub const MOST: usize = 3776;
@@ -40,8 +37,7 @@ fn put_line(
         × (output.new ≡ write output.old at (segment_line number message.now index)) }
 {
     let mut frame = [0u8; 29];
-    let Written::Count(n) = pb_adv_writing::write_segment(1, number, message, index, &mut frame)
-    else {
+    let Ok(n) = pb_adv_writing::write_segment(1, number, message, index, &mut frame) else {
         // Never: there is such a segment, and no frame is longer than 29 octets.
         return at;
     };
@@ -51,7 +47,11 @@ fn put_line(
     end + 1
 }
 
-fn put_message(number: TransactionNumber, message: &[u8], output: &mut [u8]) -> LineWritten
+fn put_message(
+    number: TransactionNumber,
+    message: &[u8],
+    output: &mut [u8],
+) -> Result<LineText, OutputTooShort>
     requires { (1 ≤ length message.now) × (length message.now ≤ 1469) }
     ensures { (result ≡ with_next (written true (message_text number message.now) output.old) (number_after number))
         × (output.new ≡ output_after true (message_text number message.now) output.old) }
@@ -60,42 +60,44 @@ fn put_message(number: TransactionNumber, message: &[u8], output: &mut [u8]) -> 
     // The first frame has 9 octets before its segment, each other one 6.
     let length = 2 * (message.len() + 9 + 6 * last) + last + 1;
     if output.len() < length {
-        return LineWritten::OutputTooShort;
+        return Err(OutputTooShort);
     }
     let mut at = 0;
-    let mut index = 0;
-    while index <= last {
+    for index in 0..=last {
         at = put_line(number, message, index, output, at);
-        index += 1;
     }
-    LineWritten::Text {
+    Ok(LineText {
         length,
         next: number.next(),
-    }
+    })
 }
 
-fn put_refused(number: TransactionNumber, output: &mut [u8]) -> LineWritten
+fn put_refused(number: TransactionNumber, output: &mut [u8]) -> Result<LineText, OutputTooShort>
     ensures { (result ≡ with_next (written true refused_text output.old) number)
         × (output.new ≡ output_after true refused_text output.old) }
 {
     if octet_parts::copy(output, 0, b"!11\n", 0, 4) {
-        LineWritten::Text {
+        Ok(LineText {
             length: 4,
             next: number,
-        }
+        })
     } else {
-        LineWritten::OutputTooShort
+        Err(OutputTooShort)
     }
 }
 
 // Writes the frames of a message given in hexadecimal, or `!11` for a line that is none.
-pub fn write_line(number: TransactionNumber, line: &[u8], output: &mut [u8]) -> LineWritten
+pub fn write_line(
+    number: TransactionNumber,
+    line: &[u8],
+    output: &mut [u8],
+) -> Result<LineText, OutputTooShort>
     ensures { (result ≡ line_written number line.now output.old)
         × (output.new ≡ line_output number line.now output.old) }
 {
     // The longest message, so that the reader refuses a longer one.
     let mut message = [0u8; octets::LONGEST_MESSAGE];
-    let Decoded::Octets(n) = hexadecimal::decode(line, &mut message) else {
+    let Ok(n) = hexadecimal::decode(line, &mut message) else {
         return put_refused(number, output);
     };
     // An empty line is hexadecimal, and no message.

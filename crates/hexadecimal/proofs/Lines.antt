@@ -9,11 +9,12 @@ use lib.ListN.{length, set, length-append}
 use lib.Seq.{take-length}
 use Rattle.octets.specs.Parts.{write, copied}
 use Rattle.octets.specs.Writing.{written, output_after}
-use Rattle.octets.specs.declared.Written.TheVariants.{Count, WrongArgument}
 use Rattle.octets.proofs.Parts.{copied-part, write-next, write-octet, write-length}
 use Rattle.octets.proofs.Writing.{written-fits, output-fits, output-short}
 use Rattle.hexadecimal.specs.Hex.{text_of, encoded_output, digit_line}
 use Rattle.hexadecimal.proofs.Laws.{length-text, encoded-fits}
+use Rattle.std.specs.Prelude.{Ok, Err}
+use Rattle.octets.specs.Writing.{wrong_argument}
 
 module _ (head octets : List ℕ) where
   pub line-long : length (digit_line head octets) ≡ length head + 2 * length octets + 1
@@ -22,7 +23,7 @@ module _ (head octets : List ℕ) where
 
   module _ (out : List ℕ) where
     pub line-short : length out < length head + 2 * length octets + 1
-        → (WrongArgument ≡ written true (digit_line head octets) out) × (out ≡ output_after true (digit_line head octets) out)
+        → (Err wrong_argument ≡ written true (digit_line head octets) out) × (out ≡ output_after true (digit_line head octets) out)
     line-short h = output-short (digit_line head octets) out (omega (arith, line-long))
 
     module _ (fits : length head + 2 * length octets + 1 ≤ length out) where
@@ -35,8 +36,8 @@ module _ (head octets : List ℕ) where
           encoded-fits octets (write out 0 head) (length head) (omega arith)
           ∙ rw zero-add at (write-next out 0 head (text_of octets) (omega arith))
 
-      pub line-count : Count (length head + 2 * length octets + 1) ≡ written true (digit_line head octets) out
-      line-count = ap Count (sym line-long) ∙ sym (written-fits (digit_line head octets) out (omega (arith, line-long)))
+      pub line-count : Ok (length head + 2 * length octets + 1) ≡ written true (digit_line head octets) out
+      line-count = ap Ok (sym line-long) ∙ sym (written-fits (digit_line head octets) out (omega (arith, line-long)))
 
       pub line-put : set (encoded_output octets (copied out 0 head 0 (length head)) (length head)) (length head + 2 * length octets) 10
           ≡ output_after true (digit_line head octets) out

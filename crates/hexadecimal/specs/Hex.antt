@@ -1,9 +1,9 @@
 -- Hexadecimal text: two digits an octet, the high half first. Characters are ASCII octets.
-use Rattle.std.specs.Prelude.{ℕ, ◌+◌, ◌*◌, ◌-◌, ◌/◌, ◌%◌, Bool, true, ◌&&◌, cond, List, [], ◌∷◌, ◌++◌, leb, eqb, length}
+use Rattle.std.specs.Prelude.{ℕ, ◌+◌, ◌*◌, ◌-◌, ◌/◌, ◌%◌, Bool, true, ◌&&◌, cond, List, [], ◌∷◌, ◌++◌, leb, eqb, length, Result, Ok, Err}
 use Rattle.octets.specs.Parts.{write, within}
 use Rattle.octets.specs.Told.{Told, refused, answered}
-use Rattle.hexadecimal.specs.declared.Decoded.{Decoded}
-use Rattle.hexadecimal.specs.declared.Decoded.TheVariants.{Octets, NotHexadecimal, TooLong}
+use Rattle.hexadecimal.specs.declared.DecodeError.{DecodeError}
+use Rattle.hexadecimal.specs.declared.DecodeError.TheVariants.{NotHexadecimal, TooLong}
 
 -- the value of a digit, of either case; 16 for any other character
 unfoldable pub value_of : ℕ → ℕ
@@ -38,17 +38,17 @@ text_of [] = []
 text_of (x ∷ l) = digit_of (x / 16) ∷ digit_of (x % 16) ∷ text_of l
 
 -- document 01's number and values of an answer
-abbrev pub told : Decoded → Told
-told (Octets n) = answered "octets" (n ∷ [])
-told NotHexadecimal = refused 11
-told TooLong = refused 11
+abbrev pub told : Result ℕ DecodeError → Told
+told (Ok n) = answered "octets" (n ∷ [])
+told (Err NotHexadecimal) = refused 11
+told (Err TooLong) = refused 11
 
 -- the answer to a reading of a text into an output
-unfoldable pub decoded_of : List ℕ → List ℕ → Decoded
+unfoldable pub decoded_of : List ℕ → List ℕ → Result ℕ DecodeError
 decoded_of text output =
     cond (is_hexadecimal text)
-    (cond (leb (length text / 2) (length output)) (Octets (length text / 2)) TooLong)
-    NotHexadecimal
+    (cond (leb (length text / 2) (length output)) (Ok (length text / 2)) (Err TooLong))
+    (Err NotHexadecimal)
 
 -- the output after it: the octets at its start and nothing else changed; as it was where the text is refused
 unfoldable pub decoded_output : List ℕ → List ℕ → List ℕ

@@ -6,52 +6,33 @@ ghost use Rattle.octets.specs.Parts.{write, within};
 ghost use Rattle.octets.specs.Writing.{written, output_after};
 ghost use Rattle.hexadecimal.specs.Hex.{value_of, digit_of, all_digits, octets_of, text_of, decoded_of, decoded_output, encoded_output, digit_line};
 
-use octets::Written;
+use octets::{Written, WrongArgument};
 
-// What reading a text found.
-#[derive(Clone, Copy)]
-pub enum Decoded {
-    // An even number of digits: how many octets now stand at the start of the output.
-    Octets(usize),
+// Why a text was not read.
+#[derive(Clone, Copy, Debug, PartialEq, Eq)]
+pub enum DecodeError {
     // An odd number of characters, or one that is no digit.
     NotHexadecimal,
     // More octets than the output holds.
     TooLong,
 }
 
-// The value of a digit, of either case; 16 for any other character.
+// The value of a digit, of either case; 16 for any other character, and no Option: the promise Digits tells of 16.
 pub fn value(character: u8) -> u8
     ensures { result ≡ value_of character }
 {
-    if 48 <= character {
-        if character <= 57 {
-            return character - 48;
-        }
+    match character {
+        b'0'..=b'9' => character - b'0',
+        b'A'..=b'F' => character - b'A' + 10,
+        b'a'..=b'f' => character - b'a' + 10,
+        _ => 16,
     }
-    if 65 <= character {
-        if character <= 70 {
-            return character - 55;
-        }
-    }
-    if 97 <= character {
-        if character <= 102 {
-            return character - 87;
-        }
-    }
-    16
 }
 
 fn all_digits(text: &[u8]) -> bool
     ensures { result ≡ all_digits text.now }
 {
-    let mut i = 0;
-    while i < text.len() {
-        if 15 < value(text[i]) {
-            return false;
-        }
-        i += 1;
-    }
-    true
+    text.iter().all(|character| value(*character) <= 15)
 }
 
 // Two digits fit an octet; the 16 of another character would not.
@@ -66,29 +47,25 @@ fn write_octets(text: &[u8], output: &mut [u8])
     requires { (all_digits text.now ≡ true) × (length text.now / 2 ≤ length output.old) }
     ensures { output.new ≡ write output.old 0 (octets_of text.now) }
 {
-    let mut j = 0;
-    while j < text.len() / 2 {
+    for j in 0..text.len() / 2 {
         output[j] = octet_of(text[2 * j], text[2 * j + 1]);
-        j += 1;
     }
 }
 
-// Reads digits, two an octet, into the start of the output. Where it refuses, the output is as it was.
-pub fn decode(text: &[u8], output: &mut [u8]) -> Decoded
+// Reads digits, two an octet, into the start of the output, and gives the number of octets. Where it refuses, the output is as it was.
+#[tactic(auto, using(octets::proofs::Tests::tests), unfolding(crate::specs::Hex::decoded_of, crate::specs::Hex::decoded_output))]
+pub fn decode(text: &[u8], output: &mut [u8]) -> Result<usize, DecodeError>
     ensures { (result ≡ decoded_of text.now output.old)
         × (output.new ≡ decoded_output text.now output.old) }
 {
-    if text.len() % 2 != 0 {
-        return Decoded::NotHexadecimal;
-    }
-    if !all_digits(text) {
-        return Decoded::NotHexadecimal;
+    if text.len() % 2 != 0 || !all_digits(text) {
+        return Err(DecodeError::NotHexadecimal);
     }
     if output.len() < text.len() / 2 {
-        return Decoded::TooLong;
+        return Err(DecodeError::TooLong);
     }
     write_octets(text, output);
-    Decoded::Octets(text.len() / 2)
+    Ok(text.len() / 2)
 }
 
 fn digit(half: u8) -> u8
@@ -102,12 +79,9 @@ fn write_text(octets: &[u8], output: &mut [u8], at: usize)
     requires { at + 2 * length octets.now ≤ length output.old }
     ensures { output.new ≡ write output.old at (text_of octets.now) }
 {
-    let mut j = 0;
-    while j < octets.len() {
-        let octet = octets[j];
+    for (j, octet) in octets.iter().enumerate() {
         output[at + 2 * j] = digit(octet / 16);
         output[at + 2 * j + 1] = digit(octet % 16);
-        j += 1;
     }
 }
 
@@ -133,18 +107,15 @@ pub fn write_line(head: &[u8], octets: &[u8], output: &mut [u8]) -> Written
         × (output.new ≡ output_after true (digit_line head.now octets.now) output.old) }
 {
     if output.len() < head.len() {
-        return Written::WrongArgument;
+        return Err(WrongArgument);
     }
     let room = output.len() - head.len();
-    if room < 1 {
-        return Written::WrongArgument;
-    }
-    if (room - 1) / 2 < octets.len() {
-        return Written::WrongArgument;
+    if room < 1 || (room - 1) / 2 < octets.len() {
+        return Err(WrongArgument);
     }
     let end = head.len() + 2 * octets.len();
     octet_parts::copy(output, 0, head, 0, head.len());
     encode(octets, output, head.len());
     output[end] = b'\n';
-    Written::Count(end + 1)
+    Ok(end + 1)
 }

@@ -10,7 +10,6 @@ use lib.Seq.{take_all}
 use borrow.Author.Tests.{le-leb, leb-true, leb-false}
 use Rattle.octets.specs.Parts.{write}
 use Rattle.octets.specs.Writing.{written, output_after}
-use Rattle.octets.specs.declared.Written.TheVariants.{Count}
 use Rattle.octets.proofs.Parts.{write-nothing}
 use Rattle.octets.proofs.Tests.{cases}
 use Rattle.lines.specs.declared.Streams.{Streams}
@@ -19,22 +18,23 @@ use Rattle.import_tray.specs.Trays.{report_text, last_report}
 use Rattle.import_tray.specs.declared.Tray.{Tray}
 use Rattle.import_capabilities.specs.Turns.{RowWaits, SocketsPut}
 use Rattle.import_capabilities.specs.Turns.SocketsPut.{more}
+use Rattle.std.specs.Prelude.{Ok}
 
 -- an output that nothing is written to
-pub no_text : (output : List ℕ) → (Count 0 ≡ written true [] output) × (output ≡ output_after true [] output)
+pub no_text : (output : List ℕ) → (Ok 0 ≡ written true [] output) × (output ≡ output_after true [] output)
 unfolding written output_after
 no_text output = rw (le-leb 0 (length output) (omega arith)) (refl, sym (write-nothing output 0))
 
 -- ---- a text of at most 315 characters
 
 text-fits : (text output : List ℕ) → length text ≤ 315 → 315 ≤ length output
-    → (written true text output ≡ Count (length text)) × (output_after true text output ≡ write output 0 text)
+    → (written true text output ≡ Ok (length text)) × (output_after true text output ≡ write output 0 text)
 unfolding written output_after
 text-fits text output h room = rw (le-leb (length text) (length output) (omega arith)) (refl, refl)
 
 -- behind the text that waits, with room for any row
 pub text-put : (output : List ℕ) (at : ℕ) → at + 315 ≤ length output → (text : List ℕ) → length text ≤ 315
-    → (written true text (behind output at) ≡ Count (length text)) × (output_after true text (behind output at) ≡ write (behind output at) 0 text)
+    → (written true text (behind output at) ≡ Ok (length text)) × (output_after true text (behind output at) ≡ write (behind output at) 0 text)
 text-put output at fits text short = text-fits text (behind output at) short (omega (arith, behind-long output at (omega arith)))
 
 -- ---- one socket more

@@ -1,8 +1,6 @@
 -- What the program does: in a turn a piece of the input more is held, and where the line is then whole, it is taken; after the last line the rows of
 -- the sockets and the last row.
-use Rattle.std.specs.Prelude.{ℕ, zero, suc, ◌≤◌, true, false, cond, List, ◌≡◌, length}
-use Rattle.octets.specs.declared.Written.{Written}
-use Rattle.octets.specs.declared.Written.TheVariants.{Count, WrongArgument}
+use Rattle.std.specs.Prelude.{ℕ, zero, suc, ◌≤◌, true, false, cond, List, ◌≡◌, length, Result, Ok, Err}
 use Rattle.lines.specs.Streams.{piece_in, with_waiting, waiting_after, TextWaits, Found, is_whole}
 use Rattle.lines.specs.declared.Streams.{Streams}
 use Rattle.stock_table.specs.Rows.{end_row}
@@ -15,11 +13,12 @@ use Rattle.import_log.specs.declared.Taken.{Taken}
 use Rattle.held_line.specs.Lines.{empty_line, settled, held_piece, begun, held_text}
 use Rattle.held_line.specs.declared.HeldLine.{HeldLine}
 use Rattle.import_capabilities.specs.declared.Progress.{Progress}
+use Rattle.octets.specs.declared.WrongArgument.{WrongArgument}
 
 -- the streams with the text of an answer waiting too
-abbrev pub waiting_with : Streams → Written → List ℕ → Streams
-waiting_with s (Count n) output = with_waiting s (waiting_after s.waiting output n) s.taken
-waiting_with s WrongArgument output = s
+abbrev pub waiting_with : Streams → Result ℕ WrongArgument → List ℕ → Streams
+waiting_with s (Ok n) output = with_waiting s (waiting_after s.waiting output n) s.taken
+waiting_with s (Err e) output = s
 
 -- the text of a row, or none, waits behind what waited
 pub record RowWaits (s : Streams) (output text : List ℕ) (r : Streams) (after : List ℕ) : Type 0 where

@@ -1,7 +1,7 @@
 // Reads the log of a tray, from standard input or from the file that its argument names, and writes the stock table to standard output.
 #![tactic(auto)]
 
-ghost use Rattle.std.specs.Prelude.{true, ◌≡◌, ◌≤◌, min, length, replicate};
+ghost use Rattle.std.specs.Prelude.{true, ◌≡◌, ◌≤◌, length, replicate};
 ghost use Rattle.octets.specs.Writing.{written, output_after};
 ghost use Rattle.held_line.specs.Lines.{held_text};
 ghost use Rattle.import_tray.specs.Trays.{report_text, last_report};
@@ -11,7 +11,6 @@ ghost use Rattle.import_capabilities.specs.Runs.{Starts, Ran};
 
 use held_line::HeldLine;
 use import_log::{Log, Taken};
-use import_tray::Report;
 use line_fields::MOST;
 use lines::Streams;
 use octets::Written;
@@ -19,7 +18,11 @@ use std::env::{Env, FillError};
 use std::fs;
 use std::io::Read;
 use std::rt::Files;
+use stock_table::Row;
 use transactions::Socket;
+
+// What is written out together: it has room for any row.
+type Output = [u8; 65536];
 
 // How far the program has come.
 #[derive(Clone, Copy)]
@@ -33,7 +36,7 @@ struct Progress {
 fn waits(streams: Streams, answer: Written, output: &[u8]) -> Streams
     ensures { result ≡ waiting_with streams answer output.now }
 {
-    let Written::Count(n) = answer else {
+    let Ok(n) = answer else {
         // Never: room was made for any row.
         return streams;
     };
@@ -41,37 +44,32 @@ fn waits(streams: Streams, answer: Written, output: &[u8]) -> Streams
 }
 
 // The text of a report at the start of the output, or refusal 11.
-fn write_report(report: Report, output: &mut [u8]) -> Written
+fn write_report(report: Option<Row>, output: &mut [u8]) -> Written
     ensures { (result ≡ written true (report_text report) output.old)
         × (output.new ≡ output_after true (report_text report) output.old)
         × (length (report_text report) ≤ 315) }
 {
-    let Report::Row(row) = report else {
-        return Written::Count(0);
+    let Some(row) = report else {
+        return Ok(0);
     };
     stock_table::write_row(row, output)
 }
 
 // The row of a report waits.
+// The handle, the streams and the output stay parameters here and below: a struct of them would lend the output, and each contract would speak of it through
+// the loan.
 fn put_report<P: Print + Eprint>(
     rt: &P,
     before: Streams,
-    report: Report,
+    report: Option<Row>,
     output: &mut [u8],
 ) -> Streams
     requires { 315 ≤ length output.old }
     ensures { RowWaits before output.old (report_text report) result output.new }
 {
     let streams = lines::make_room(rt, before, output, MOST);
-    let waiting = streams.waiting;
-    let answer = write_report(report, &mut output[waiting..]);
+    let answer = write_report(report, &mut output[streams.waiting..]);
     waits(streams, answer, output)
-}
-
-fn smaller(a: usize, b: usize) -> usize
-    ensures { result ≡ min a b }
-{
-    if a <= b { a } else { b }
 }
 
 // Takes the line that is held.
@@ -79,9 +77,8 @@ fn take_held(log: Log, area: &mut [u8], line: HeldLine) -> Taken
     ensures { (result ≡ taken log area.old (held_text line))
         × (area.new ≡ area_after log area.old (held_text line)) }
 {
-    let characters = line.characters;
-    let count = smaller(line.count, 64);
-    import_log::take_line(log, area, &characters[..count])
+    let count = line.count.min(64);
+    import_log::take_line(log, area, &line.characters[..count])
 }
 
 // What is held of a line at its end, by a newline or by the end of input.
@@ -101,38 +98,31 @@ fn take_turn<P: Print + Eprint, R: Read>(
     progress: Progress,
     input: &mut [u8],
     area: &mut [u8],
-    output: &mut [u8],
+    output: &mut Output,
 ) -> Progress
-    requires { 315 ≤ length output.old }
     ensures { Turn progress input.old area.old output.old result input.new area.new output.new }
 {
     let streams = lines::next_piece(rt, reader, progress.streams, input, output);
-    let from = streams.from;
-    let to = streams.to;
-    let line = held_line::hold_piece(progress.line, &input[from..to]);
+    let line = held_line::hold_piece(progress.line, &input[streams.from..streams.to]);
     let begun = held_line::begun(line);
     if lines::is_whole(streams, begun) {
         let whole = whole_line(streams, line);
         let taken = take_held(progress.log, area, whole);
-        let log = taken.log;
-        let report = taken.report;
         return Progress {
-            streams: put_report(rt, streams, report, output),
+            streams: put_report(rt, streams, taken.report, output),
             line: held_line::empty_line(),
-            log: log,
+            log: taken.log,
         };
     }
-    let log = progress.log;
     Progress {
-        streams: streams,
-        line: line,
-        log: log,
+        streams,
+        line,
+        log: progress.log,
     }
 }
 
 // The header is the first row, always.
-fn begin(output: &mut [u8]) -> Progress
-    requires { 315 ≤ length output.old }
+fn begin(output: &mut Output) -> Progress
     ensures { Starts output.old result output.new }
 {
     let answer = stock_table::write_header(output);
@@ -149,9 +139,8 @@ fn put_socket<P: Print + Eprint>(
     log: Log,
     socket: Socket,
     before: Streams,
-    output: &mut [u8],
+    output: &mut Output,
 ) -> Streams
-    requires { 315 ≤ length output.old }
     ensures { RowWaits before output.old (report_text (last_report log.tray socket)) result output.new }
 {
     let report = import_tray::last_report(log.tray, socket);
@@ -159,39 +148,33 @@ fn put_socket<P: Print + Eprint>(
 }
 
 // The same of every socket.
-fn put_sockets<P: Print + Eprint>(rt: &P, log: Log, before: Streams, output: &mut [u8]) -> Streams
-    requires { 315 ≤ length output.old }
+fn put_sockets<P: Print + Eprint>(rt: &P, log: Log, before: Streams, output: &mut Output) -> Streams
     ensures { SocketsPut log.tray before output.old 8 result output.new }
 {
     let mut streams = before;
-    let mut socket: u8 = 1;
-    while socket <= 8 {
+    for socket in 1..=8 {
         streams = put_socket(rt, log, Socket(socket), streams, output);
-        socket += 1;
     }
     streams
 }
 
 // The rows after the last line.
-fn put_last<P: Print + Eprint>(rt: &P, log: Log, before: Streams, output: &mut [u8]) -> Streams
-    requires { 315 ≤ length output.old }
+fn put_last<P: Print + Eprint>(rt: &P, log: Log, before: Streams, output: &mut Output) -> Streams
     ensures { LastPut log before output.old result output.new }
 {
     let streams = put_sockets(rt, log, before, output);
     let row = stock_table::end_row(log.lines);
-    put_report(rt, streams, Report::Row(row), output)
+    put_report(rt, streams, Some(row), output)
 }
 
 // At the end of the input the last rows; a table that was cut short has none of them.
-fn put_end<P: Print + Eprint>(rt: &P, progress: Progress, output: &mut [u8]) -> Streams
-    requires { 315 ≤ length output.old }
+fn put_end<P: Print + Eprint>(rt: &P, progress: Progress, output: &mut Output) -> Streams
     ensures { EndPut progress output.old result output.new }
 {
-    let streams = progress.streams;
-    if streams.over {
-        return put_last(rt, progress.log, streams, output);
+    if progress.streams.over {
+        return put_last(rt, progress.log, progress.streams, output);
     }
-    streams
+    progress.streams
 }
 
 // Takes turns for as long as pieces are found, and writes out what still waits. What it then has is handed back so that the contract can speak of it.
@@ -200,30 +183,23 @@ fn run<P: Print + Eprint, R: Read>(
     reader: &mut R,
     input: &mut [u8],
     area: &mut [u8],
-    output: &mut [u8],
+    output: &mut Output,
 ) -> Progress
-    requires { (area.old ≡ replicate 11752 0) × (315 ≤ length output.old) }
+    requires { area.old ≡ replicate 11752 0 }
     ensures { Ran input.old output.old result input.new area.new output.new }
 {
     let mut progress = begin(output);
-    // Nothing says that the input ends, so the turns are counted down from a number that no run uses up.
-    let mut turns = u64::MAX;
-    while turns > 0 {
+    // Nothing says that the input ends, so there is a number of turns that no run uses up.
+    for turn in 0..u64::MAX {
         progress = take_turn(rt, reader, progress, input, area, output);
-        let streams = progress.streams;
-        if streams.found {
-            turns -= 1;
-        } else {
-            turns = 0;
+        if !progress.streams.found {
+            break;
         }
     }
     let put = put_end(rt, progress, output);
-    let line = progress.line;
-    let log = progress.log;
     Progress {
         streams: lines::flush(rt, put, output),
-        line: line,
-        log: log,
+        ..progress
     }
 }
 
@@ -247,23 +223,15 @@ fn import_file<H: Files + Print + Eprint>(rt: &H, name: &[u8]) {
     }
 }
 
-// Whether there is an argument.
-fn is_given(argument: Result<usize, FillError>) -> bool {
-    match argument {
-        Err(FillError::NotPresent) => false,
-        _ => true,
-    }
-}
-
 fn main(rt: HostRuntime) {
     let mut name = io::buffer();
     let first = rt.arg(1, &mut name);
-    if !is_given(first) {
+    if matches!(first, Err(FillError::NotPresent)) {
         import(&rt, &mut rt.stdin());
         return;
     }
     let second = rt.arg(2, &mut []);
-    if is_given(second) | (name[0] == b'-') {
+    if !matches!(second, Err(FillError::NotPresent)) || name[0] == b'-' {
         let _ = eprintln!(rt; "usage: import_capabilities [FILE]");
         return;
     }

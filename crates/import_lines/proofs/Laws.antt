@@ -1,35 +1,34 @@
 -- Laws of a line of a log: what the reading of its digits tells, and frames that are too long.
+use Rattle.std.specs.Prelude.{Some, None, Result, Err}
+use Rattle.links.specs.declared.Answer.{Answer}
+use Rattle.links.specs.declared.Refusal.{Refusal}
 use Prim.Native.Nat.{ℕ, ◌/◌, ◌≤◌, ◌<◌}
 use native.Mathlib.Omega.{arith}
 use mathlib.Core.Bool.{true, false}
-use mathlib.Core.List.{List, []}
+use mathlib.Core.List.{List, [], ◌∷◌}
 use mathlib.Core.Path.{◌≡◌, refl, ap}
-use lib.Dec.{leb}
+use lib.Dec.{leb, eqb}
+use lib.Pointwise.{pointwise}
+use Rattle.std.proofs.Common.{nat_eq}
 use lib.ListN.{length, take}
 use borrow.Author.Tests.{le-leb, lt-leb, leb-true, leb-false}
 use Rattle.octets.proofs.Tests.{cases, both_hold}
 use Rattle.hexadecimal.specs.Hex.{is_hexadecimal, octets_of, decoded_of, decoded_output}
-use Rattle.hexadecimal.specs.declared.Decoded.TheVariants.{Octets, NotHexadecimal, TooLong}
+use Rattle.std.specs.Prelude.{Ok, Err}
+use Rattle.hexadecimal.specs.declared.DecodeError.TheVariants.{TooLong}
 use Rattle.hexadecimal.proofs.Laws.{length-octets}
-use Rattle.hexadecimal.proofs.Readings.{read_none, read-long, read-octets, read-front}
-use Rattle.log_lines.specs.Lines.{is_frame, is_opening, socket_in, id_in, opening_of}
-use Rattle.log_lines.specs.declared.Opening.TheVariants as G
+use Rattle.hexadecimal.proofs.Readings.{read-long, read-octets, read-front}
+use Rattle.log_lines.specs.Lines.{is_frame, is_marked_sent, is_opening, socket_in, id_in, opening_of}
+use Rattle.log_lines.specs.declared.Opening.{Opening}
 use Rattle.pb_adv.specs.Frame.{parsed}
 use Rattle.pb_adv.specs.declared.FrameRefusal.TheVariants.{Malformed}
-use Rattle.pb_adv.specs.declared.Parsed.TheVariants as P
-use Rattle.transactions.specs.Numbers.{socket_place}
-use Rattle.transactions.specs.declared.Socket.{Socket}
 use Rattle.links.specs.Links.{provisioner}
 use Rattle.links.specs.Station.{Station, received}
-use Rattle.links.specs.declared.Answer.{Answer}
-use Rattle.import_tray.specs.Trays.{station_of, with_stock, nothing_after}
-use Rattle.import_tray.specs.declared.Stock.TheVariants.{Missing}
+use Rattle.import_tray.specs.Trays.{station_of}
 use Rattle.import_tray.specs.declared.Tray.{Tray}
 use Rattle.import_frames.specs.Heard.{heard_step, heard_area}
 use Rattle.import_frames.specs.Sent.{sent_step}
-use Rattle.import_frames.specs.declared.Outcome.{Outcome}
-use Rattle.import_frames.specs.declared.Outcome.TheVariants as O
-use Rattle.import_lines.specs.Lines.{opened_by, opened_step, plain_step, other_step, held_frame}
+use Rattle.import_lines.specs.Lines.{opened_step, plain_step, other_step, held_frame}
 
 -- ---- frames
 
@@ -46,7 +45,7 @@ frame-length line p = leb-true 2 (length line) (both_hold {a = is_hexadecimal li
 pub no-frame : (line : List ℕ) → is_hexadecimal line ≡ false → is_frame line ≡ false
 no-frame line p = rw p
 
-parsed-long : (f : List ℕ) → 30 ≤ length f → parsed f ≡ P.Refused Malformed
+parsed-long : (f : List ℕ) → 30 ≤ length f → parsed f ≡ Err Malformed
 unfolding parsed
 parsed-long f h = rw (le-leb 6 (length f) (omega arith), lt-leb (length f) 29 (omega arith))
 
@@ -60,7 +59,7 @@ pub long-frames : (tray : Tray) (area : List ℕ) (number : ℕ) (f g : List ℕ
 unfolding heard_step heard_area
 long-frames tray area number f g p q =
     let e = same_received (station_of tray area) f g p q in
-    (rw (e, parsed-long f p, parsed-long g q), ap (λ (r : Answer × Station). r.1.area) e)
+    (rw (e, parsed-long f p, parsed-long g q), ap (λ (r : Result Answer Refusal × Station). r.1.area) e)
 
 -- sent, 1
 pub long-sent : (tray : Tray) (number : ℕ) (f g : List ℕ) → 30 ≤ length f → 30 ≤ length g → sent_step tray number f ≡ sent_step tray number g
@@ -83,7 +82,7 @@ module _ (line room : List ℕ) where
   held_none p = rw p
 
   -- by what the reading tells
-  pub held-octets : {n : ℕ} → decoded_of line room ≡ Octets n
+  pub held-octets : {n : ℕ} → decoded_of line room ≡ Ok n
       → (n ≡ length (held_frame line room)) × (take n (decoded_output line room) ≡ held_frame line room)
   held-octets {n} e =
       let r = read-octets line room e in
@@ -94,20 +93,8 @@ module _ (line room : List ℕ) where
       let zero : n ≡ 0 = omega arith in
       rw (held_none (empty-line line (omega arith)), zero) (refl, refl))
 
-  pub held-other : decoded_of line room ≡ NotHexadecimal → held_frame line room ≡ []
-  held-other e = held_none (no-frame line (read_none line room e))
-
-  pub held-room : decoded_of line room ≡ TooLong → (held_frame line room ≡ room) × (decoded_output line room ≡ room)
+  pub held-room : decoded_of line room ≡ Err TooLong → (held_frame line room ≡ room) × (decoded_output line room ≡ room)
   held-room e = let r = read-long line room e in (held-long (frame-line line r.0 (omega (arith, r.1))) r.1, r.2)
-
-  pub held-few : length (held_frame line room) ≤ length room
-  unfolding held_frame
-  held-few =
-      cases (is_frame line)
-      (λ p. rw p (cases (leb (length line / 2) (length room))
-      (λ q. rw q (omega (arith, length-octets line, leb-true (length line / 2) (length room) q)))
-      (λ q. rw q (omega arith))))
-      (λ p. rw p (omega arith))
 
   pub held-is-frame : (length (held_frame line room) ≡ 0 → ⊥) → is_frame line ≡ true
   held-is-frame some = cases (is_frame line) (λ p. p) (λ p. absurd (some (rw (held_none p))))
@@ -137,31 +124,28 @@ module _ (line room : List ℕ) where
         let heard = long-frames tray area number room (octets_of line) (omega arith) long in
         rw (held-long p many) (heard.0, heard.1, long-sent tray number room (octets_of line) (omega arith) long))
 
+-- ---- the mark of a frame that was sent
+
+-- a line begins with the mark where its first character is the mark
+pub marked-front : (line : List ℕ) → pointwise nat_eq (take 1 line) (62 ∷ []) ≡ is_marked_sent line
+marked-front [] = refl
+marked-front (c ∷ line) = cases (eqb c 62) (λ e. rw e) (λ e. rw e)
+
 -- ---- openings
 
 -- a line that is no frame, by what it says as an opening
 module _ (line : List ℕ) where
-  pub opened-line : {s : Socket} {id : ℕ} → opening_of line ≡ G.Opens s id → (tray : Tray) (number : ℕ) → other_step tray number line ≡ opened_step tray number s id
+  pub opened-line : {o : Opening} → opening_of line ≡ Some o → (tray : Tray) (number : ℕ) → other_step tray number line ≡ opened_step tray number o.socket o.id
   unfolding opening_of other_step
-  opened-line {s} {id} =
+  opened-line {o} =
       cases (is_opening line)
-      (λ p. rw p (λ e. let same : socket_in line ≡ s = cc in
-      let same_id : id_in line ≡ id = cc in
-      λ tray number. rw (same, same_id)))
+      (λ p. rw p (λ e. let same : record { socket = socket_in line; id = id_in line } ≡ o = cc in
+      λ tray number. rw (← same)))
       (λ p. rw p (λ e. let z : ◌≡◌ {A = ℕ} 0 1 = cc in absurd (omega arith)))
 
-  pub unopened-line : opening_of line ≡ G.Nothing → (tray : Tray) (number : ℕ) → other_step tray number line ≡ plain_step tray number line
+  pub unopened-line : opening_of line ≡ None → (tray : Tray) (number : ℕ) → other_step tray number line ≡ plain_step tray number line
   unfolding opening_of other_step
   unopened-line =
       cases (is_opening line)
       (λ p. rw p (λ e. let z : ◌≡◌ {A = ℕ} 0 1 = cc in absurd (omega arith)))
       (λ p. rw p (λ e tray number. refl))
-
--- ---- the arms of all other cases
-
--- answers that are no refusals
-pub opened-told : (o : Outcome) → ((n : ℕ) → o ≡ O.Refused n → ⊥) → (tray : Tray) (number : ℕ) (s : Socket) (id : ℕ)
-    → nothing_after (with_stock tray (socket_place s) Missing) ≡ opened_by o tray number s id
-opened-told (O.Refused n) h tray number s id = absurd (h n refl)
-opened-told (O.Delivered n t) h tray number s id = refl
-opened-told O.Nothing h tray number s id = refl

@@ -1,59 +1,61 @@
 // The steps of a line, by its kind.
-ghost use Rattle.std.specs.Prelude.{true, ◌≡◌, ◌≤◌, length, take};
-ghost use Rattle.log_lines.specs.Lines.{is_marked_sent};
-ghost use Rattle.import_lines.specs.Lines.{opened_by, opened_step, wrong_line, plain_step, other_step, sent_line, unheard_step, line_step, line_area, held_frame};
+ghost use Rattle.std.specs.Prelude.{◌≡◌, length};
+ghost use Rattle.import_lines.specs.Lines.{opened_by, opened_step, wrong_line, plain_step, other_step, sent_line, unheard_step, line_step, line_area, FrameRead};
 
-use hexadecimal::Decoded;
-use import_frames::Outcome;
-use import_tray::{Report, Step, Stock, Tray, refuse};
+use hexadecimal::DecodeError;
+use import_frames::{Delivery, outcome_of};
+use import_tray::{Step, Stock, Tray, refuse};
 use line_fields::Field;
-use log_lines::{Opening, read_opening};
+use links::Refusal;
+use log_lines::read_opening;
 use octets::octet_at;
 use stock_table::Origin;
 use transactions::Socket;
 
 // An argument that is wrong: a line of no form.
-fn refuse_line(tray: Tray, line: u64) -> Step
-    ensures { result ≡ wrong_line tray line }
+fn refuse_line(tray: Tray, number: u64) -> Step
+    ensures { result ≡ wrong_line tray number }
 {
-    let origin = Origin {
-        socket: Field::Empty,
-        id: Field::Empty,
-        number: Field::Empty,
-    };
-    refuse(tray, line, origin, 11)
+    refuse(
+        tray,
+        number,
+        Origin::default(),
+        refusal_numbers::of_station(Refusal::WrongArgument),
+    )
 }
 
 // After the local Open, by what its answer comes to.
-fn tell_opened(outcome: Outcome, tray: Tray, line: u64, socket: Socket, id: u32) -> Step
-    ensures { result ≡ opened_by outcome tray line socket id }
+fn tell_opened(
+    outcome: Result<Option<Delivery>, Refusal>,
+    tray: Tray,
+    number: u64,
+    socket: Socket,
+    id: u32,
+) -> Step
+    ensures { result ≡ opened_by outcome tray number socket id }
 {
-    if let Outcome::Refused(refusal) = outcome {
+    if let Err(refusal) = outcome {
         let origin = Origin {
             socket: Field::Decimal(socket.0 as u64),
             id: Field::Number(id),
-            number: Field::Empty,
+            ..Origin::default()
         };
-        return refuse(tray, line, origin, refusal);
+        return refuse(tray, number, origin, refusal_numbers::of_station(refusal));
     }
     Step {
         tray: import_tray::with_stock(tray, socket.place(), Stock::Missing),
-        report: Report::Nothing,
+        report: None,
     }
 }
 
-fn open_socket(tray: Tray, line: u64, socket: Socket, id: u32) -> Step
-    ensures { result ≡ opened_step tray line socket id }
+fn open_socket(tray: Tray, number: u64, socket: Socket, id: u32) -> Step
+    ensures { result ≡ opened_step tray number socket id }
 {
-    let links = tray.links;
-    let called = local_calls::open(links, socket, id);
-    let after = called.links;
-    let answer = called.answer;
-    let outcome = import_frames::outcome_of(answer);
+    let called = local_calls::open(tray.links, socket, id);
     tell_opened(
-        outcome,
-        import_tray::with_links(tray, after),
-        line,
+        outcome_of(called.answer),
+        import_tray::with_links(tray, called.links),
+        number,
         socket,
         id,
     )
@@ -63,17 +65,8 @@ fn open_socket(tray: Tray, line: u64, socket: Socket, id: u32) -> Step
 fn take_plain(tray: Tray, number: u64, line: &[u8]) -> Step
     ensures { result ≡ plain_step tray number line.now }
 {
-    if line.len() == 0 {
-        return Step {
-            tray: tray,
-            report: Report::Nothing,
-        };
-    }
-    if octet_at(line, 0) == b'#' {
-        return Step {
-            tray: tray,
-            report: Report::Nothing,
-        };
+    if line.is_empty() || octet_at(line, 0) == b'#' {
+        return Step { tray, report: None };
     }
     refuse_line(tray, number)
 }
@@ -82,23 +75,21 @@ fn take_plain(tray: Tray, number: u64, line: &[u8]) -> Step
 fn take_other(tray: Tray, number: u64, line: &[u8]) -> Step
     ensures { result ≡ other_step tray number line.now }
 {
-    let opening = read_opening(line);
-    if let Opening::Opens { socket, id } = opening {
-        return open_socket(tray, number, socket, id);
+    match read_opening(line) {
+        Some(opening) => open_socket(tray, number, opening.socket, opening.id),
+        None => take_plain(tray, number, line),
     }
-    take_plain(tray, number, line)
 }
 
 // The octets of a frame's digits; how many. One octet more than a frame has: a longer one is refused as one of 30 octets is.
-fn read_frame(digits: &[u8], frame: &mut [u8]) -> usize
+fn read_frame(digits: &[u8], frame: &mut [u8]) -> Option<usize>
     requires { length frame.old ≡ 30 }
-    ensures { (result ≡ length (held_frame digits.now frame.old))
-        × (take result frame.new ≡ held_frame digits.now frame.old) }
+    ensures { FrameRead digits.now frame.old result frame.new }
 {
     match hexadecimal::decode(digits, frame) {
-        Decoded::Octets(n) => n,
-        Decoded::NotHexadecimal => 0,
-        Decoded::TooLong => 30,
+        Ok(n) => (n > 0).then_some(n),
+        Err(DecodeError::NotHexadecimal) => None,
+        Err(DecodeError::TooLong) => Some(30),
     }
 }
 
@@ -107,31 +98,20 @@ fn take_sent_line(tray: Tray, number: u64, digits: &[u8]) -> Step
     ensures { result ≡ sent_line tray number digits.now }
 {
     let mut frame = [0u8; 30];
-    let count = read_frame(digits, &mut frame);
-    if count == 0 {
-        return refuse_line(tray, number);
+    match read_frame(digits, &mut frame) {
+        Some(count) => import_frames::take_sent(tray, number, &frame[..count]),
+        None => refuse_line(tray, number),
     }
-    import_frames::take_sent(tray, number, &frame[..count])
-}
-
-// Whether a line begins as a frame that was sent does.
-fn is_marked_sent(line: &[u8]) -> bool
-    ensures { (result ≡ is_marked_sent line.now) × (result ≡ true → 1 ≤ length line.now) }
-{
-    if line.len() == 0 {
-        return false;
-    }
-    line[0] == b'>'
 }
 
 // A line that is no frame heard.
 fn take_unheard(tray: Tray, number: u64, line: &[u8]) -> Step
     ensures { result ≡ unheard_step tray number line.now }
 {
-    if is_marked_sent(line) {
-        return take_sent_line(tray, number, &line[1..]);
+    match line.strip_prefix(b">") {
+        Some(digits) => take_sent_line(tray, number, digits),
+        None => take_other(tray, number, line),
     }
-    take_other(tray, number, line)
 }
 
 // Imports one line of a log, the line of that number, of any length and content.
@@ -140,9 +120,8 @@ pub fn import_line(tray: Tray, area: &mut [u8], number: u64, line: &[u8]) -> Ste
         × (area.new ≡ line_area tray area.old line.now) }
 {
     let mut frame = [0u8; 30];
-    let count = read_frame(line, &mut frame);
-    if count == 0 {
-        return take_unheard(tray, number, line);
+    match read_frame(line, &mut frame) {
+        Some(count) => import_frames::take_heard(tray, area, number, &frame[..count]),
+        None => take_unheard(tray, number, line),
     }
-    import_frames::take_heard(tray, area, number, &frame[..count])
 }

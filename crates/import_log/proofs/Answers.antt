@@ -1,4 +1,7 @@
 -- The promises of `specs/Answers.antt`.
+use Rattle.std.specs.Prelude.{Some, Ok, Option, Result}
+use Rattle.links.specs.declared.Answer.{Answer}
+use Rattle.links.specs.declared.Refusal.{Refusal}
 use Prim.Native.Nat.{ℕ, ◌+◌, ◌*◌, ◌≤◌, ◌<◌}
 use native.Mathlib.Omega.{arith}
 use mathlib.Core.Bool.{true, false≢true}
@@ -15,7 +18,7 @@ use Rattle.transactions.specs.Segments.{seg_n, segment}
 use Rattle.transactions.specs.declared.Socket.{Socket}
 use Rattle.transactions.specs.declared.TransactionNumber.{TransactionNumber}
 use Rattle.pb_adv.specs.Frame.{parsed}
-use Rattle.pb_adv.specs.declared.Parsed.TheVariants as P
+use Rattle.pb_adv.specs.declared.Frame.TheVariants as P
 use Rattle.pb_adv_writing.specs.Writing.{header_of, segment_frame, SegmentAsked}
 use Rattle.pb_adv_writing.proofs.Promises.{parsed-frame}
 use Rattle.links.specs.Links.{provisioner, is_last, sends}
@@ -24,8 +27,6 @@ use Rattle.links.specs.Station.{Station, get_link, received, link_at}
 use Rattle.links.specs.Interleaving.{All}
 use Rattle.links.specs.declared.Side.TheVariants.{Device}
 use Rattle.links.specs.declared.LinkState.TheVariants as S
-use Rattle.links.specs.declared.LastDelivered.{LastDelivered}
-use Rattle.links.specs.declared.Answer.{Answer}
 use Rattle.links.specs.declared.Answer.TheVariants as A
 use Rattle.links.proofs.Lens.{sized-right, part-size}
 use Rattle.links.proofs.Right.{OpenAt, found, goes, same}
@@ -39,7 +40,6 @@ use Rattle.stock_table.specs.declared.Origin.{Origin}
 use Rattle.import_tray.specs.Trays.{stock_at}
 use Rattle.import_tray.specs.declared.Stock.{Stock}
 use Rattle.import_tray.specs.declared.Stock.TheVariants as K
-use Rattle.import_tray.specs.declared.Report.TheVariants as R
 use Rattle.import_tray.specs.declared.Tray.{Tray}
 use Rattle.import_tray.specs.declared.Step.{Step}
 use Rattle.import_messages.specs.Messages.{capabilities_by}
@@ -59,7 +59,7 @@ use Rattle.import_log.proofs.Opening.{opening-waits, ack-line}
 
 -- the first since its socket was opened
 first-recorded : (stock : Stock) → ((c : Capabilities) → stock ≢ K.Recorded c) → (tray : Tray) (s line : ℕ) (origin : Origin) (c : Capabilities)
-    → (capabilities_by stock tray s line origin c).report ≡ R.Row (record_row W.Record line origin c)
+    → (capabilities_by stock tray s line origin c).report ≡ Some (record_row W.Record line origin c)
 first-recorded K.Unopened h tray s line origin c = refl
 first-recorded K.Missing h tray s line origin c = refl
 first-recorded (K.Recorded first) h tray s line origin c = absurd (h first refl)
@@ -95,15 +95,15 @@ module _ (m : Import) (g : Right (station_in m)) (s : Socket) (id : ℕ) (t : Tr
     abbrev taken : OneLink
     taken = (segment_step (get_link place σ) t (header_of octets 0) (segment octets 0)).1
 
-    at-link : ((segment_step (get_link place σ) t (header_of octets 0) (segment octets 0)).0 ≡ A.Delivered 12 t) × (take 12 taken.part ≡ octets)
+    at-link : ((segment_step (get_link place σ) t (header_of octets 0) (segment octets 0)).0 ≡ Ok (A.Delivered 12 t)) × (take 12 taken.part ≡ octets)
     unfolding get_link
     at-link =
         let one : seg_n (length octets) ≡ 0 = rw long in
         let room = part-size (length σ.links) σ refl g.sized place opened.below in
         rw (← long) (at_once octets t (get_link place σ) x.awaited x.not_half (omega arith) one (omega (arith, room)))
 
-    answers : (received provisioner σ f).0 ≡ A.Delivered 12 t
-    answers = ap (λ (r : Answer × Station). r.0) (goes provisioner σ place id opened t octets 0 asked x.sent f is) ∙ at-link.0
+    answers : (received provisioner σ f).0 ≡ Ok (A.Delivered 12 t)
+    answers = ap (λ (r : Result Answer Refusal × Station). r.0) (goes provisioner σ place id opened t octets 0 asked x.sent f is) ∙ at-link.0
 
     -- the message stands at the start of its part
     stands : part (received provisioner σ f).1.area (1469 * place) 12 ≡ octets
@@ -112,8 +112,8 @@ module _ (m : Import) (g : Right (station_in m)) (s : Socket) (id : ℕ) (t : Tr
         part-front (received provisioner σ f).1.area (1469 * place) 12 1469 (omega arith)
         ∙ ap (λ (y : OneLink). take 12 y.part) (same provisioner σ place id opened t octets 0 asked x.sent f is) ∙ at-link.1
 
-    writes : (number : ℕ) (c : Capabilities) → message_read octets ≡ M.Capabilities c
-        → (heard_step tray m.area number f).report ≡ R.Row (record_row W.Record number (message_origin s id t) c)
+    writes : (number : ℕ) (c : Capabilities) → message_read octets ≡ Ok (M.Capabilities c)
+        → (heard_step tray m.area number f).report ≡ Some (record_row W.Record number (message_origin s id t) c)
     unfolding heard_step
     writes number c e =
         let n = ap parsed is ∙ parsed-frame id t octets 0 asked in
@@ -129,7 +129,7 @@ answer-recorded m g s id t x line octets a =
     let r = capabilities-read octets c a.accepted.1 in
     ap (λ (k : Step). k.report) (heard-line m line a.is_hexadecimal)
     ∙ writes m g s id t x octets r.0 (octets_of line) a.frame (number_in m) c a.accepted.1
-    ∙ ap (λ (d : Capabilities). R.Row (record_row W.Record (number_in m) (message_origin s id t) d)) r.1
+    ∙ ap (λ (d : Capabilities). Some (record_row W.Record (number_in m) (message_origin s id t) d)) r.1
 
 -- EVERY ANSWER IS RECORDED
 pub every-answer : EveryAnswer
@@ -145,14 +145,14 @@ expects m s id w opened t sent = record {
   is_open = opened;
   has_id = w.has_id;
   sent = sent;
-  awaited = record { not_last = ap (λ (l : LastDelivered). is_last l t) w.last };
+  awaited = record { not_last = ap (λ (l : Option TransactionNumber). is_last l t) w.last };
   not_half = λ h e. let q = sym w.half ∙ e in let z : ◌≡◌ {A = ℕ} 0 1 = cc in absurd (omega arith);
   no_record = λ c e. false≢true (sym w.no_record ∙ ap is_recorded e);
 }
 
 -- the lines that open it, with the lines between them and since
 module _ (before : List (List ℕ)) (opening : List ℕ) (s : Socket) (id : ℕ) (opens : Opens (after_all at_first before) opening s id)
-    (between : List (List ℕ)) (leave : All (Leaves id) between) (ack : List ℕ) (is_hexadecimal : is_frame ack ≡ true) (is_ack : parsed (octets_of ack) ≡ P.Ack id)
+    (between : List (List ℕ)) (leave : All (Leaves id) between) (ack : List ℕ) (is_hexadecimal : is_frame ack ≡ true) (is_ack : parsed (octets_of ack) ≡ Ok (P.Ack id))
     (since : List (List ℕ)) (leave_too : All (Leaves id) since) where
   -- after the opening, before the Ack and after it
   abbrev first : Import

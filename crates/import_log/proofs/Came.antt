@@ -1,5 +1,6 @@
 -- A message that a line delivers came by its cut, in lines since the latest opening of its socket, and the line itself has a frame of it.
 use Prim.Native.Nat.{ℕ, ◌*◌, ◌≤◌}
+use Rattle.std.specs.Prelude.{Some, Ok}
 use native.Mathlib.Omega.{arith}
 use mathlib.Core.Bool.{true}
 use mathlib.Core.List.Memᴰ
@@ -23,7 +24,6 @@ use Rattle.links.specs.Operations.{Operation, receiving, opening, operate, after
 use Rattle.links.specs.Promises.{addressed}
 use Rattle.links.specs.Demand3.{Message}
 use Rattle.links.specs.Demand2.{Receiving, CameByCut, FromCut, Delivery, UsedUnder, OpenedBy, Opened}
-use Rattle.links.specs.declared.Found.TheVariants.{At}
 use Rattle.links.specs.declared.Answer.TheVariants as A
 use Rattle.links.proofs.Interleaving.{after-append}
 use Rattle.links.proofs.Only.{only}
@@ -157,14 +157,14 @@ module _ (before : List (List ℕ)) (line : List ℕ) (is_one : is_frame line �
     pub octets : List ℕ
     pub opened : LatestOpening before socket id
     pub cut : (g : List ℕ) → Memᴰ g (message_frames id t octets) → HeardIn (opened.since ++ (line ∷ [])) g
-    pub is_for : addressed provisioner ρ.links (parsed f) ≡ At (socket_place socket)
+    pub is_for : addressed provisioner ρ.links (parsed f) ≡ Some (socket_place socket)
     pub stands : part (received provisioner ρ f).1.area (1469 * socket_place socket) n ≡ octets
-    pub origin : frame_origin (At (socket_place socket)) (parsed f) ≡ message_origin socket id t
+    pub origin : frame_origin (Some (socket_place socket)) (parsed f) ≡ message_origin socket id t
     pub index : ℕ
     pub inside : index ≤ seg_n (length octets)
     pub frame : f ≡ segment_frame id t octets index
 
-  module _ (n : ℕ) (t : TransactionNumber) (s : Socket) (numbered : is_socket s 8 ≡ true) (at : addressed provisioner τ.links (parsed f) ≡ At (socket_place s))
+  module _ (n : ℕ) (t : TransactionNumber) (s : Socket) (numbered : is_socket s 8 ≡ true) (at : addressed provisioner τ.links (parsed f) ≡ Some (socket_place s))
       (u : Delivers τ f (frame-octets line is_one) (socket_place s) n t) (m : Message) (same_number : m.number ≡ t)
       (same : part (received provisioner τ f).1.area (1469 * socket_place s) n ≡ m.octets)
       (b : CameByCut provisioner σ s (of_socket s τ).link.id m (past ++ (receiving f ∷ [])))
@@ -172,7 +172,7 @@ module _ (before : List (List ℕ)) (line : List ℕ) (is_one : is_frame line �
     abbrev its : ℕ
     its = (of_socket s τ).link.id
 
-    origin-is : frame_origin (At (socket_place s)) (parsed f) ≡ message_origin s its t
+    origin-is : frame_origin (Some (socket_place s)) (parsed f) ≡ message_origin s its t
     origin-is =
         let p = ap (λ (x : Socket). x.0) (socket-at s 8 numbered) in
         rw u.is_segment (λ i. record { socket = F.Decimal (p i); id = F.Number (u.has_id i); number = F.Octet (u.number i).0 })
@@ -192,7 +192,7 @@ module _ (before : List (List ℕ)) (line : List ℕ) (is_one : is_frame line �
       frame = rw (← same, ← u.has_id) u.frame;
     }
 
-  module _ (n : ℕ) (t : TransactionNumber) (delivered : (received provisioner τ f).0 ≡ A.Delivered n t) where
+  module _ (n : ℕ) (t : TransactionNumber) (delivered : (received provisioner τ f).0 ≡ Ok (A.Delivered n t)) where
     delivery : Delivery provisioner σ past f (n ∷ t.0 ∷ [])
     delivery = only provisioner σ past (lines-octets at_first before) f (frame-octets line is_one) (n ∷ t.0 ∷ []) (ap told delivered)
 
@@ -232,6 +232,6 @@ module _ (before : List (List ℕ)) (line : List ℕ) (is_one : is_frame line �
         came-in n t delivery.socket delivery.numbered delivery.is_for
         (delivers τ f (frame-octets line is_one) (socket_place delivery.socket) n t delivery.is_for delivered) m same_number same-octets from_cut.came opened
 
-  pub came : (n : ℕ) (t : TransactionNumber) → (received provisioner (station_in (after_all at_first before)) f).0 ≡ A.Delivered n t
+  pub came : (n : ℕ) (t : TransactionNumber) → (received provisioner (station_in (after_all at_first before)) f).0 ≡ Ok (A.Delivered n t)
       → Came (station_in (after_all at_first before)) n t
-  came n t = subst (λ (ρ : Station). (received provisioner ρ f).0 ≡ A.Delivered n t → Came ρ n t) (sym (stations-after at_first before)) (came-now n t)
+  came n t = subst (λ (ρ : Station). (received provisioner ρ f).0 ≡ Ok (A.Delivered n t) → Came ρ n t) (sym (stations-after at_first before)) (came-now n t)

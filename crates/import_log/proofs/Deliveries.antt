@@ -1,5 +1,8 @@
 -- A frame that delivers a message is itself of that message's cut: one of its segments, with the Link ID of the link that it is for.
 use Prim.Native.Nat.{ℕ, zero, suc, ◌*◌, ◌≤◌, ◌<◌}
+use Rattle.links.specs.declared.Answer.{Answer}
+use Rattle.links.specs.declared.Refusal.{Refusal}
+use Rattle.std.specs.Prelude.{Some, Result, Ok}
 use native.Mathlib.Omega.{arith}
 use mathlib.Core.Bool.{true}
 use mathlib.Core.List.{List}
@@ -16,7 +19,7 @@ use Rattle.pb_adv.specs.Frame.{parsed, segment_octets}
 use Rattle.pb_adv.specs.declared.SegmentHeader.{SegmentHeader}
 use Rattle.pb_adv.specs.declared.SegmentHeader.TheVariants.{Start}
 use Rattle.pb_adv.specs.declared.Segment.{Segment}
-use Rattle.pb_adv.specs.declared.Parsed.TheVariants as P
+use Rattle.pb_adv.specs.declared.Frame.TheVariants as P
 use Rattle.pb_adv.proofs.Promises.{segments-are-encodings}
 use Rattle.pb_adv_writing.specs.Writing.{header_of, segment_frame}
 use Rattle.links.specs.Links.{provisioner}
@@ -27,8 +30,6 @@ use Rattle.links.specs.Promises.{addressed}
 use Rattle.links.specs.declared.Side.TheVariants.{Provisioner}
 use Rattle.links.specs.declared.LinkState.TheVariants as S
 use Rattle.links.specs.declared.HalfMessage.{HalfMessage}
-use Rattle.links.specs.declared.Found.TheVariants.{At}
-use Rattle.links.specs.declared.Answer.{Answer}
 use Rattle.links.specs.declared.Answer.TheVariants as A
 use Rattle.links.proofs.Deliver.{segment-fits-in, segment-same}
 use Rattle.links.proofs.View.{header_at, IfDelivered, Origin, held, begins, New}
@@ -91,7 +92,7 @@ module _ (x : OneLink) (size : length x.part ≡ 1469) (link_good : good_link Pr
 -- ---- a delivery
 
 module _ (σ : Station) (f : List ℕ) (o : Octets f) where
-  abbrev done : Answer × Station
+  abbrev done : Result Answer Refusal × Station
   done = received provisioner σ f
 
   -- the octets that stand at the start of the part of place s
@@ -102,7 +103,7 @@ module _ (σ : Station) (f : List ℕ) (o : Octets f) where
   pub record Delivers (s n : ℕ) (t : TransactionNumber) : Type 0 where
     pub below : s < length σ.links
     pub segment : Segment
-    pub is_segment : parsed f ≡ P.Segment segment
+    pub is_segment : parsed f ≡ Ok (P.Segment segment)
     pub is_open : (get_link s σ).link.state ≡ S.Open
     pub has_id : segment.id ≡ (get_link s σ).link.id
     pub number : segment.number ≡ t
@@ -112,24 +113,24 @@ module _ (σ : Station) (f : List ℕ) (o : Octets f) where
     pub frame : f ≡ segment_frame segment.id t (standing s n) index
 
   module _ (s : ℕ) (right : is_right provisioner σ ≡ true) (state_good : good Provisioner σ.links ≡ true) (below : s < length σ.links)
-      (at : addressed provisioner σ.links (parsed f) ≡ At s)
-      (q : done ≡ placed σ s (frame_step Provisioner (get_link s σ) (get_link s σ).link.state f (parsed f))) (n : ℕ) (t : TransactionNumber) (delivered : done.0 ≡ A.Delivered n t) where
+      (at : addressed provisioner σ.links (parsed f) ≡ Some s)
+      (q : done ≡ placed σ s (frame_step Provisioner (get_link s σ) (get_link s σ).link.state f (parsed f))) (n : ℕ) (t : TransactionNumber) (delivered : done.0 ≡ Ok (A.Delivered n t)) where
     abbrev x : OneLink
     x = get_link s σ
 
     sized : Sized σ
     sized = right-sized provisioner σ right
 
-    abbrev r : Answer × OneLink
+    abbrev r : Result Answer Refusal × OneLink
     r = frame_step Provisioner x x.link.state f (parsed f)
 
-    answer : r.0 ≡ A.Delivered n t
-    answer = sym (ap (λ (p : Answer × Station). p.0) q) ∙ delivered
+    answer : r.0 ≡ Ok (A.Delivered n t)
+    answer = sym (ap (λ (p : Result Answer Refusal × Station). p.0) q) ∙ delivered
 
     part-after : part done.1.area (1469 * s) 1469 ≡ r.1.part
     unfolding get_link
     part-after =
-        ap (λ (y : OneLink). y.part) (ap (λ (p : Answer × Station). get_link s p.1) q
+        ap (λ (y : OneLink). y.part) (ap (λ (p : Result Answer Refusal × Station). get_link s p.1) q
         ∙ get-put (length σ.links) σ refl sized s below r.1 (frame-step-keeps provisioner σ f s o right state_good below).part)
 
     stands : n ≤ 1469 → standing s n ≡ take n r.1.part
@@ -155,13 +156,13 @@ module _ (σ : Station) (f : List ℕ) (o : Octets f) where
         of : Ends x h k d (entered x h k d) → Delivers s n t
         of (is_whole all right end) =
             let step = w ∙ end in
-            let a : A.Delivered h.length h.number ≡ A.Delivered n t = sym (ap (λ (p : Answer × OneLink). p.0) step) ∙ answer in
+            let a : Ok (A.Delivered h.length h.number) ≡ Ok (A.Delivered n t) = sym (ap (λ (p : Result Answer Refusal × OneLink). p.0) step) ∙ answer in
             let en : h.length ≡ n = cc in
             let et : h.number ≡ t = cc in
             let long' = long x size link_good opened g.number g.header d h k new in
             let is : standing s n ≡ message x size link_good opened g.number g.header d h k new =
             stands (omega (arith, few x size link_good opened g.number g.header d h k new))
-            ∙ ap (λ (p : Answer × OneLink). take n p.1.part) step ∙ ap (λ (i : ℕ). take i (write x.part (segment_place k) d)) (sym en) in
+            ∙ ap (λ (p : Result Answer Refusal × OneLink). take n p.1.part) step ∙ ap (λ (i : ℕ). take i (write x.part (segment_place k) d)) (sym en) in
             let same : g.number ≡ t = sym new.number ∙ et in
             record {
               below = below;
@@ -177,14 +178,14 @@ module _ (σ : Station) (f : List ℕ) (o : Octets f) where
                   ((segments-are-encodings f o g e).encoded
                   ∙ of_cut x size link_good opened g.number g.header d h k new g.id (λ i. Start (long' i) (right i)));
             }
-        of (is_wrong end) = let a = sym (ap (λ (p : Answer × OneLink). p.0) (w ∙ end)) ∙ answer in let z : ◌≡◌ {A = ℕ} 0 1 = cc in absurd (omega arith)
-        of (is_kept end) = let a = sym (ap (λ (p : Answer × OneLink). p.0) (w ∙ end)) ∙ answer in let z : ◌≡◌ {A = ℕ} 0 1 = cc in absurd (omega arith)
+        of (is_wrong end) = let a = sym (ap (λ (p : Result Answer Refusal × OneLink). p.0) (w ∙ end)) ∙ answer in let z : ◌≡◌ {A = ℕ} 0 1 = cc in absurd (omega arith)
+        of (is_kept end) = let a = sym (ap (λ (p : Result Answer Refusal × OneLink). p.0) (w ∙ end)) ∙ answer in let z : ◌≡◌ {A = ℕ} 0 1 = cc in absurd (omega arith)
 
-  pub delivers : (s n : ℕ) (t : TransactionNumber) → addressed provisioner σ.links (parsed f) ≡ At s → done.0 ≡ A.Delivered n t → Delivers s n t
+  pub delivers : (s n : ℕ) (t : TransactionNumber) → addressed provisioner σ.links (parsed f) ≡ Some s → done.0 ≡ Ok (A.Delivered n t) → Delivers s n t
   delivers s n t at e = of (does provisioner σ f)
     where
       of : Promise.Does provisioner σ f (parsed f) done → Delivers s n t
-      of (refuses a q) = let w = sym (ap (λ (p : Answer × Station). p.0) q) ∙ e in let z : ◌≡◌ {A = ℕ} 0 1 = cc in absurd (omega arith)
+      of (refuses a q) = let w = sym (ap (λ (p : Result Answer Refusal × Station). p.0) q) ∙ e in let z : ◌≡◌ {A = ℕ} 0 1 = cc in absurd (omega arith)
       of (steps j right state_good below this q) =
           let same : j ≡ s = cc in
           subst (λ (i : ℕ). Delivers i n t) same (from j right state_good below this (q ∙ ap (placed σ j) (provisioner-step (get_link j σ) f (parsed f))) n t e (frame-does (get_link j σ) f o Provisioner))

@@ -1,5 +1,6 @@
 -- The lines of a log as operations of the station: what each does there, and the station after them, which is never bad.
 use Prim.Native.Nat.{ℕ, zero, suc, ◌*◌, ◌-◌, ◌%◌, ◌≤◌}
+use Rattle.links.specs.declared.Answer.{Answer}
 use native.Mathlib.Omega.{arith}
 use mathlib.Core.Bool.{true, false, cond}
 use mathlib.Core.List.{List, [], ◌∷◌, ◌++◌, append_assoc}
@@ -7,6 +8,7 @@ use mathlib.Core.Path.{◌≡◌, refl, sym, ap, ◌∙◌}
 use lib.Dec.{eqb, leb}
 use lib.ListN.{length, drop, get_or, replicate}
 use borrow.Author.Tests.{eqb-true, ne_eqb, leb-true, le-leb}
+use Rattle.std.specs.Prelude.{Option, Some, None, Result, Ok, Err}
 use Rattle.octets.specs.Numbers.{Octets}
 use Rattle.octets.proofs.Tests.{cases, both_hold, holds-both}
 use Rattle.hexadecimal.specs.Hex.{value_of, all_digits, is_hexadecimal, octets_of}
@@ -21,27 +23,24 @@ use Rattle.links.specs.Interleaving.{All}
 use Rattle.links.specs.Operations.{Operation, receiving, opening, sending, closing, operate, after_all as operated, Offered}
 use Rattle.links.specs.Promises.{addressed}
 use Rattle.links.specs.declared.Side.TheVariants.{Provisioner}
-use Rattle.links.specs.declared.Found.{Found}
-use Rattle.links.specs.declared.Found.TheVariants.{At, Nowhere}
-use Rattle.links.specs.declared.Answer.{Answer}
 use Rattle.links.proofs.Interleaving.{after-append}
 use Rattle.links.proofs.Lens.{Sized}
 use Rattle.links.proofs.Promises.{receiving-keeps-good, receiving-keeps-size, operate-count, local-calls}
 use Rattle.provisioning.specs.Message.{message_read}
 use Rattle.provisioning.specs.declared.Message.{Message}
+use Rattle.provisioning.specs.declared.MessageRefusal.{MessageRefusal}
+use Rattle.provisioning.specs.declared.Capabilities.{Capabilities}
+use Rattle.links.specs.declared.Refusal.{Refusal}
 use Rattle.stock_table.specs.declared.Origin.{Origin}
 use Rattle.import_tray.specs.Trays.{station_of, with_links}
 use Rattle.import_tray.specs.declared.Stock.{Stock}
 use Rattle.import_tray.specs.declared.Stock.TheVariants as K
 use Rattle.import_tray.specs.declared.Tray.{Tray}
 use Rattle.import_messages.specs.Messages.{reading_of, capabilities_by, message_by}
-use Rattle.import_messages.specs.declared.Reading.{Reading}
-use Rattle.import_messages.specs.declared.Reading.TheVariants as R
 use Rattle.import_frames.specs.Origins.{outcome_of, frame_origin}
 use Rattle.import_frames.specs.Heard.{delivered_step, heard_by, heard_step, heard_area}
 use Rattle.import_frames.specs.Sent.{sent_of, local_by, sent_by, sent_step}
-use Rattle.import_frames.specs.declared.Outcome.{Outcome}
-use Rattle.import_frames.specs.declared.Outcome.TheVariants as O
+use Rattle.import_frames.specs.declared.Delivery.{Delivery}
 use Rattle.import_frames.specs.declared.Asked.{Asked}
 use Rattle.import_frames.specs.declared.Asked.TheVariants as A
 use Rattle.log_lines.specs.Lines.{is_frame, is_marked_sent, is_sent, begins_opening, is_opening, is_passed, socket_in, id_in}
@@ -55,13 +54,13 @@ frame-digits line e = (both_hold {a = eqb (length line % 2) 0} {b = all_digits l
 -- ---- the operations of lines
 
 -- what a sent frame asks
-abbrev pub asked_operations : Asked → List Operation
-asked_operations A.Nothing = []
-asked_operations (A.Refused n) = []
-asked_operations (A.Send socket n) = sending socket n ∷ []
-asked_operations (A.Close socket) = closing socket ∷ []
+abbrev pub asked_operations : Result (Option Asked) Refusal → List Operation
+asked_operations (Ok None) = []
+asked_operations (Err r) = []
+asked_operations (Ok (Some (A.Send socket n))) = sending socket n ∷ []
+asked_operations (Ok (Some (A.Close socket))) = closing socket ∷ []
 
-abbrev pub asked_by : Tray → List ℕ → Asked
+abbrev pub asked_by : Tray → List ℕ → Result (Option Asked) Refusal
 asked_by tray f = sent_of tray.links (addressed provisioner tray.links (parsed f)) (parsed f)
 
 abbrev pub sent_operations : Tray → List ℕ → List Operation
@@ -83,7 +82,7 @@ pub data Does (tray : Tray) (line : List ℕ) : Type 0 where
   hears : is_frame line ≡ true → operations_in tray line ≡ receiving (octets_of line) ∷ [] → Does tray line
   opens : is_opening line ≡ true → operations_in tray line ≡ opening (socket_in line) (id_in line) ∷ [] → Does tray line
   sends : (s : Socket) (n : ℕ) → operations_in tray line ≡ sending s n ∷ [] → Does tray line
-  closes : (s : Socket) → is_sent line ≡ true → asked_by tray (octets_of (drop 1 line)) ≡ A.Close s → operations_in tray line ≡ closing s ∷ [] → Does tray line
+  closes : (s : Socket) → is_sent line ≡ true → asked_by tray (octets_of (drop 1 line)) ≡ Ok (Some (A.Close s)) → operations_in tray line ≡ closing s ∷ [] → Does tray line
   nothing : operations_in tray line ≡ [] → Does tray line
 
 pub does : (tray : Tray) (line : List ℕ) → Does tray line
@@ -95,11 +94,11 @@ does tray line =
     (λ h. nothing (rw (e, g, h)))) (λ g.
     cases (is_opening line) (λ h. opens h (rw (e, g, h))) (λ h. nothing (rw (e, g, h)))))
   where
-    asked : is_sent line ≡ true → (a : Asked) → asked_by tray (octets_of (drop 1 line)) ≡ a → operations_in tray line ≡ asked_operations a → Does tray line
-    asked h A.Nothing q e = nothing e
-    asked h (A.Refused n) q e = nothing e
-    asked h (A.Send s n) q e = sends s n e
-    asked h (A.Close s) q e = closes s h q e
+    asked : is_sent line ≡ true → (a : Result (Option Asked) Refusal) → asked_by tray (octets_of (drop 1 line)) ≡ a → operations_in tray line ≡ asked_operations a → Does tray line
+    asked h (Ok None) q e = nothing e
+    asked h (Err r) q e = nothing e
+    asked h (Ok (Some (A.Send s n))) q e = sends s n e
+    asked h (Ok (Some (A.Close s))) q e = closes s h q e
 
 -- ---- openings
 
@@ -158,46 +157,44 @@ abbrev pub station_in : Import → Station
 station_in m = station_of m.log.tray m.area
 
 -- a message that was delivered leaves the records
-read-links : (r : Reading) (tray : Tray) (s line : ℕ) (origin : Origin) (m : Message) → (message_by r tray s line origin m).tray.links ≡ tray.links
-read-links (R.Record c) tray s line origin m = by (get_or tray.stock s _).stock
+read-links : (r : Result (Option Capabilities) MessageRefusal) (tray : Tray) (s line : ℕ) (origin : Origin) (m : Result Message MessageRefusal) → (message_by r tray s line origin m).tray.links ≡ tray.links
+read-links (Ok (Some c)) tray s line origin m = by (get_or tray.stock s _)
   where
     by : (k : Stock) → (capabilities_by k tray s line origin c).tray.links ≡ tray.links
     by K.Unopened = refl
     by K.Missing = refl
     by (K.Recorded first) = refl
-read-links (R.Refused n) tray s line origin m = refl
-read-links R.Other tray s line origin m = refl
+read-links (Err n) tray s line origin m = refl
+read-links (Ok None) tray s line origin m = refl
 
 heard-links : (tray : Tray) (area : List ℕ) (number : ℕ) (f : List ℕ)
     → (heard_step tray area number f).tray.links ≡ (received provisioner (station_of tray area) f).1.links
 unfolding heard_step
 heard-links tray area number f = by (outcome_of done.0)
   where
-    done : Answer × Station
+    done : Result Answer Refusal × Station
     done = received provisioner (station_of tray area) f
 
-    at : (found : Found) (t : Tray) (n : ℕ) → (delivered_step found (parsed f) t done.1.area number n).tray.links ≡ t.links
-    at (At s) t n = let m = message_read _ in read-links (reading_of m) t s number (frame_origin (At s) (parsed f)) m
-    at Nowhere t n = refl
+    at : (found : Option ℕ) (t : Tray) (n : ℕ) → (delivered_step found (parsed f) t done.1.area number n).tray.links ≡ t.links
+    at (Some s) t n = let m = message_read _ in read-links (reading_of m) t s number (frame_origin (Some s) (parsed f)) m
+    at None t n = refl
 
-    by : (o : Outcome) → (heard_by o tray.links (parsed f) (with_links tray done.1.links) done.1.area number).tray.links ≡ done.1.links
-    by (O.Refused n) = refl
-    by (O.Delivered n t) = at (addressed provisioner tray.links (parsed f)) _ n
-    by O.Nothing = refl
+    by : (o : Result (Option Delivery) Refusal) → (heard_by o tray.links (parsed f) (with_links tray done.1.links) done.1.area number).tray.links ≡ done.1.links
+    by (Err r) = refl
+    by (Ok (Some d)) = at (addressed provisioner tray.links (parsed f)) _ d.length
+    by (Ok None) = refl
 
 open-links : (tray : Tray) (number : ℕ) (s : Socket) (id : ℕ) → (opened_step tray number s id).tray.links ≡ (local_open Provisioner tray.links s id).1
 unfolding opened_step
 open-links tray number s id = let r = local_open Provisioner tray.links s id in by (with_links tray r.1) (outcome_of r.0)
   where
-    by : (t : Tray) (o : Outcome) → (opened_by o t number s id).tray.links ≡ t.links
-    by t (O.Refused n) = refl
-    by t (O.Delivered n u) = refl
-    by t O.Nothing = refl
+    by : (t : Tray) (o : Result (Option Delivery) Refusal) → (opened_by o t number s id).tray.links ≡ t.links
+    by t (Err r) = refl
+    by t (Ok d) = refl
 
-local-links : (o : Outcome) (tray : Tray) (number : ℕ) (origin : Origin) → (local_by o tray number origin).tray.links ≡ tray.links
-local-links (O.Refused n) tray number origin = refl
-local-links (O.Delivered n t) tray number origin = refl
-local-links O.Nothing tray number origin = refl
+local-links : (o : Result (Option Delivery) Refusal) (tray : Tray) (number : ℕ) (origin : Origin) → (local_by o tray number origin).tray.links ≡ tray.links
+local-links (Err r) tray number origin = refl
+local-links (Ok d) tray number origin = refl
 
 sent-station : (tray : Tray) (area : List ℕ) (number : ℕ) (f : List ℕ)
     → station_of (sent_step tray number f).tray area ≡ operated provisioner (station_of tray area) (sent_operations tray f)
@@ -207,13 +204,13 @@ sent-station tray area number f = by (asked_by tray f)
     origin : Origin
     origin = frame_origin (addressed provisioner tray.links (parsed f)) (parsed f)
 
-    by : (a : Asked) → station_of (sent_by a tray number origin).tray area ≡ operated provisioner (station_of tray area) (asked_operations a)
-    by A.Nothing = refl
-    by (A.Refused n) = refl
-    by (A.Send s n) =
+    by : (a : Result (Option Asked) Refusal) → station_of (sent_by a tray number origin).tray area ≡ operated provisioner (station_of tray area) (asked_operations a)
+    by (Ok None) = refl
+    by (Err r) = refl
+    by (Ok (Some (A.Send s n))) =
         let r = local_send Provisioner tray.links s n in
         λ i. record { links = local-links (outcome_of r.0) (with_links tray r.1) number origin i; area = area }
-    by (A.Close s) =
+    by (Ok (Some (A.Close s))) =
         let r = local_close Provisioner tray.links s in
         λ i. record { links = local-links (outcome_of r.0) (with_links tray r.1) number origin i; area = area }
 

@@ -9,6 +9,7 @@ use lib.Dec.{eqb}
 use lib.ListN.{length, get_or}
 use lib.Seq.{get_or-take}
 use borrow.Author.Tests.{eqb-true, eq-eqb}
+use Rattle.std.specs.Prelude.{Ok, None, Some}
 use Rattle.octets.specs.Cut.{piece, up_to}
 use Rattle.octets.specs.Parts.{part}
 use Rattle.octets.proofs.Tests.{cases, both_hold}
@@ -21,7 +22,6 @@ use Rattle.pb_adv.specs.Frame.{parsed, segment_octets}
 use Rattle.pb_adv_writing.specs.Writing.{header_of, segment_frame, message_frames}
 use Rattle.links.specs.Links.{provisioner}
 use Rattle.links.specs.Station.{received}
-use Rattle.links.specs.declared.Found.TheVariants.{At}
 use Rattle.links.proofs.Frames.{in_cut}
 use Rattle.provisioning.specs.Message.{message_read, told}
 use Rattle.provisioning.specs.declared.Capabilities.{Capabilities}
@@ -30,13 +30,12 @@ use Rattle.provisioning.proofs.Promises.{capabilities-in-place}
 use Rattle.line_fields.specs.declared.Word.{Word}
 use Rattle.line_fields.specs.declared.Word.TheVariants as W
 use Rattle.line_fields.specs.declared.Field.TheVariants as F
+use Rattle.std.specs.Prelude.{Some}
 use Rattle.stock_table.specs.Rows.{record_row, message_row}
 use Rattle.stock_table.specs.declared.Origin.{Origin}
-use Rattle.stock_table.specs.declared.Stated.TheVariants as T
 use Rattle.stock_table.specs.declared.Row.{Row}
 use Rattle.import_tray.specs.declared.Stock.TheVariants as K
 use Rattle.import_messages.specs.Messages.{reading_of, same_fields, further_word}
-use Rattle.import_messages.specs.declared.Reading.TheVariants as G
 use Rattle.import_frames.specs.Origins.{frame_origin}
 use Rattle.import_log.specs.Logs.{Import, after, after_all, at_first, number_in}
 use Rattle.import_log.specs.Records.{LatestOpening, message_origin, fields_of, is_record_word, IsTrue, EveryRecord, RecordsAt, OpenedBetween, OneRecord, RecordedSince, FurtherIsTrue, EveryFurther, MessageIsTrue, EveryMessage}
@@ -60,7 +59,7 @@ fields_in v = record {
   input_oob_action = get_or v 7 0;
 }
 
-pub capabilities-read : (m : List ℕ) (c : Capabilities) → message_read m ≡ M.Capabilities c → (length m ≡ 12) × (c ≡ fields_of m)
+pub capabilities-read : (m : List ℕ) (c : Capabilities) → message_read m ≡ Ok (M.Capabilities c) → (length m ≡ 12) × (c ≡ fields_of m)
 capabilities-read m c e = let w = capabilities-in-place m _ (ap told e) in (w.long, ap fields_in w.fields)
 
 -- twelve octets are one frame, behind nine
@@ -95,9 +94,9 @@ module _ (before : List (List ℕ)) (line : List ℕ) (row : Row) where
         sym (ap (λ (i : ℕ). message_read (part area (1469 * i) d.long)) place ∙ ap message_read c.stands)
 
     origin : origin_from m line d ≡ message_origin c.socket c.id d.number
-    origin = ap (λ (i : ℕ). frame_origin (At i) (parsed (octets_of line))) place ∙ c.origin
+    origin = ap (λ (i : ℕ). frame_origin (Some i) (parsed (octets_of line))) place ∙ c.origin
 
-    is_true_lem : (word : Word) (fields : Capabilities) → read_from m line d ≡ M.Capabilities fields
+    is_true_lem : (word : Word) (fields : Capabilities) → read_from m line d ≡ Ok (M.Capabilities fields)
         → row ≡ record_row word (number_in m) (origin_from m line d) fields → IsTrue before line row
     is_true_lem word fields e q =
         let what : word ≡ row.what = sym (ap (λ (r : Row). r.what) q) in
@@ -113,13 +112,13 @@ module _ (before : List (List ℕ)) (line : List ℕ) (row : Row) where
           frame = frame;
           alone = one-frame c.id d.number c.octets w.0 ∙ ap (λ (f : List ℕ). f ∷ []) (sym frame);
           opened = c.opened;
-          accepted = read ∙ e ∙ ap M.Capabilities w.1;
+          accepted = read ∙ e ∙ ap (λ (x : Capabilities). Ok (M.Capabilities x)) w.1;
           long = w.0;
           places = λ i h. rw frame (behind-header c.id d.number c.octets w.0 i h);
           shown = q ∙ λ i. record_row (what i) (number_in m) (origin i) (w.1 i);
         }
 
-    message-is-true : reading_of (read_from m line d) ≡ G.Other
+    message-is-true : reading_of (read_from m line d) ≡ Ok None
         → row ≡ message_row (number_in m) (origin_from m line d) (read_from m line d) → MessageIsTrue before line row
     message-is-true a q = record {
       socket = c.socket;
@@ -189,8 +188,8 @@ module _ (lines : List (List ℕ)) (s : Socket) (id : ℕ) (o : LatestOpening li
       of (opened_in k) = absurd (o.latest k.front k.opening k.rest k.split k.id (rw (here k.front) k.opens))
       of (recorded_in d was is k) =
           let same : d ≡ c = let e = sym is ∙ now in cc in
-          let w : (r : RecordsAt (after_all at_first (o.before ++ (o.opening ∷ k.front))) k.line s) × (r.row.stated ≡ T.Fields c) =
-          rw (here k.front) (k.records, k.stated ∙ ap T.Fields same) in
+          let w : (r : RecordsAt (after_all at_first (o.before ++ (o.opening ∷ k.front))) k.line s) × (r.row.stated ≡ Some c) =
+          rw (here k.front) (k.records, k.stated ∙ ap Some same) in
           record { between = k.front; line = k.line; rest = k.rest; split = k.split; records = w.0; stated = w.1 }
 
 -- "the same eight fields" are the same
@@ -235,7 +234,7 @@ further-tells first c =
     (λ g. let h : c ≢ first = λ q. false≢true (sym g ∙ ap (same_fields first) q ∙ fields-same first) in
     rw g ((λ e. let z : ◌≡◌ {A = ℕ} 0 1 = cc in absurd (omega arith), λ q. absurd (h q)), (λ e. h, λ e. refl)))
 
-fields-are : (a b : Capabilities) → T.Fields a ≡ T.Fields b → a ≡ b
+fields-are : (a b : Capabilities) → Some a ≡ Some b → a ≡ b
 fields-are a b e = cc
 
 decimal-is : (a b : ℕ) → F.Decimal a ≡ F.Decimal b → a ≡ b

@@ -1,4 +1,7 @@
 -- The promises of `specs/Refusals.antt`.
+use Rattle.std.specs.Prelude.{None, Some, Option, Result, Ok, Err}
+use Rattle.links.specs.declared.Answer.{Answer}
+use Rattle.pb_adv.specs.declared.Frame.{Frame}
 use Prim.Native.Nat.{ℕ, suc, ◌+◌, ◌*◌, ◌-◌, ◌%◌}
 use native.Mathlib.Omega.{arith}
 use mathlib.Core.Bool.{true, false, false≢true}
@@ -14,40 +17,35 @@ use Rattle.hexadecimal.proofs.Laws.{digit_at}
 use Rattle.transactions.specs.declared.Socket.{Socket}
 use Rattle.transactions.specs.declared.TransactionNumber.{TransactionNumber}
 use Rattle.pb_adv.specs.Frame.{parsed, refusal_number as frame_number}
-use Rattle.pb_adv.specs.declared.Parsed.{Parsed}
-use Rattle.pb_adv.specs.declared.Parsed.TheVariants as P
+use Rattle.pb_adv.specs.declared.Frame.TheVariants as P
 use Rattle.pb_adv.specs.declared.Segment.{Segment}
 use Rattle.pb_adv.specs.declared.FrameRefusal.{FrameRefusal}
+use Rattle.pb_adv.specs.declared.FrameRefusal.TheVariants.{Malformed, UnknownOpcode}
+use Rattle.import_frames.specs.declared.Delivery.{Delivery}
 use Rattle.links.specs.Links.{provisioner, blank_with, find, refusal_number, told}
 use Rattle.links.specs.Good.{good}
 use Rattle.links.specs.Station.{Station, no_link, is_found, on_frame, received, local_open, local_send, local_close}
 use Rattle.links.specs.Promises.{addressed}
 use Rattle.links.specs.declared.Side.TheVariants.{Provisioner}
 use Rattle.links.specs.declared.Link.{Link}
-use Rattle.links.specs.declared.Found.{Found}
-use Rattle.links.specs.declared.Found.TheVariants.{At, Nowhere}
 use Rattle.links.specs.declared.Refusal.{Refusal}
 use Rattle.links.specs.declared.LinkState.TheVariants as L
-use Rattle.links.specs.declared.Answer.{Answer}
 use Rattle.links.specs.declared.Answer.TheVariants as A
 use Rattle.links.proofs.Local.{Calls, refusal, written, open-calls}
 use Rattle.provisioning.specs.Message.{message_read, refusal_number as message_number}
 use Rattle.provisioning.specs.declared.Message.{Message}
-use Rattle.provisioning.specs.declared.Message.TheVariants as M
 use Rattle.provisioning.specs.declared.MessageRefusal.{MessageRefusal}
 use Rattle.line_fields.specs.declared.Field.TheVariants as F
 use Rattle.stock_table.specs.Rows.{origin_of, unknown}
 use Rattle.stock_table.specs.declared.Origin.{Origin}
 use Rattle.stock_table.specs.declared.Row.{Row}
 use Rattle.import_tray.specs.Trays.{station_of, with_links, row_after, nothing_after}
-use Rattle.import_tray.specs.declared.Report.TheVariants as R
 use Rattle.import_tray.specs.declared.Step.{Step}
 use Rattle.import_tray.specs.declared.Tray.{Tray}
 use Rattle.import_messages.specs.Messages.{message_step}
-use Rattle.import_frames.specs.Origins.{outcome_of, socket_at, frame_origin}
+use Rattle.import_frames.specs.Origins.{delivery, outcome_of, socket_at, frame_origin}
 use Rattle.import_frames.specs.Heard.{next_of, is_repeat, delivered_step, heard_by, heard_step}
 use Rattle.import_frames.specs.Sent.{local_by, sent_by, sent_step}
-use Rattle.import_frames.specs.declared.Outcome.TheVariants as O
 use Rattle.import_frames.specs.declared.Asked.{Asked}
 use Rattle.import_frames.specs.declared.Asked.TheVariants as Q
 use Rattle.log_lines.specs.Lines.{is_frame, is_marked_sent, is_sent, begins_opening, is_opening, is_passed, socket_in, id_in}
@@ -60,26 +58,26 @@ use Rattle.import_log.proofs.Rows.{heard-line, opened, Becomes, records, compare
 -- ---- the two repeats
 
 module _ (ls : List Link) where
-  repeat-is : (p : Parsed) (n : ℕ) → is_repeat (next_of ls (addressed provisioner ls p)) p n ≡ true → IsRepeat ls p n
-  repeat-is (P.Segment s) n e = absurd (false≢true e)
-  repeat-is (P.Acknowledgement id t) n e = of (addressed provisioner ls (P.Acknowledgement id t)) refl
+  repeat-is : (p : Result Frame FrameRefusal) (r : Refusal) → is_repeat (next_of ls (addressed provisioner ls p)) p r ≡ true → IsRepeat ls p (refusal_number r)
+  repeat-is (Ok (P.Segment s)) r e = absurd (false≢true e)
+  repeat-is (Ok (P.Acknowledgement id t)) r e = of (addressed provisioner ls (Ok (P.Acknowledgement id t))) refl
     where
-      of : (found : Found) → addressed provisioner ls (P.Acknowledgement id t) ≡ found → IsRepeat ls (P.Acknowledgement id t) n
-      of (At s) q =
-          let w = both_hold {a = eqb n 12} (rw q at e) in
-          acknowledgement id t s refl q (eqb-true _ _ w.1) (eqb-true n 12 w.0)
-      of Nowhere q =
-          let w = both_hold {a = eqb n 12} (rw q at e) in
+      of : (found : Option ℕ) → addressed provisioner ls (Ok (P.Acknowledgement id t)) ≡ found → IsRepeat ls (Ok (P.Acknowledgement id t)) (refusal_number r)
+      of (Some s) q =
+          let w = both_hold {a = eqb (refusal_number r) 12} (rw q at e) in
+          acknowledgement id t s refl q (eqb-true _ _ w.1) (eqb-true (refusal_number r) 12 w.0)
+      of None q =
+          let w = both_hold {a = eqb (refusal_number r) 12} (rw q at e) in
           let z : t.0 + 1 ≡ 0 = eqb-true (t.0 + 1) 0 w.1 in
           absurd (omega arith)
-  repeat-is (P.Open id uuid) n e = absurd (false≢true e)
-  repeat-is (P.Ack id) n e = absurd (false≢true e)
-  repeat-is (P.Close id reason) n e = close id reason refl (eqb-true n 3 e)
-  repeat-is (P.Refused r) n e = absurd (false≢true e)
+  repeat-is (Ok (P.Open id uuid)) r e = absurd (false≢true e)
+  repeat-is (Ok (P.Ack id)) r e = absurd (false≢true e)
+  repeat-is (Ok (P.Close id reason)) r e = close id reason refl (eqb-true (refusal_number r) 3 e)
+  repeat-is (Err f) r e = absurd (false≢true e)
 
-  is-repeat : (p : Parsed) (n : ℕ) → IsRepeat ls p n → is_repeat (next_of ls (addressed provisioner ls p)) p n ≡ true
-  is-repeat p n (acknowledgement id t s e q u k) = rw (q, e, k) (eq-eqb (t.0 + 1) _ u)
-  is-repeat p n (close id reason e k) = rw (e, k) refl
+  is-repeat : (p : Result Frame FrameRefusal) (r : Refusal) → IsRepeat ls p (refusal_number r) → is_repeat (next_of ls (addressed provisioner ls p)) p r ≡ true
+  is-repeat p r (acknowledgement id t s e q u k) = rw (q, e, k) (eq-eqb (t.0 + 1) _ u)
+  is-repeat p r (close id reason e k) = rw (e, k) refl
 
 -- ---- the kinds of lines
 
@@ -109,60 +107,60 @@ module _ (m : Import) (line : List ℕ) where
       (λ e. let d : is_frame (drop 1 line) ≡ false = rw e at g in rw f (rw e (rw d refl)))
       (λ e. rw (f, e, o, p))
 
-  opening-told : is_opening line ≡ true → (r : Refusal) → (local_open Provisioner (links_in m) (socket_in line) (id_in line)).0 ≡ A.Refused r
+  opening-told : is_opening line ≡ true → (r : Refusal) → (local_open Provisioner (links_in m) (socket_in line) (id_in line)).0 ≡ Err r
       → TellsRefusal m line (origin_of (F.Decimal (socket_in line).0) (F.Number (id_in line)) F.Empty) (refusal_number r)
   unfolding opened_step
   opening-told o r e = report (opening-step o) ∙ rw e
 
-  heard-told : is_frame line ≡ true → (r : Refusal) → (heard_in m line).0 ≡ A.Refused r → (IsRepeat (links_in m) (frame_heard line) (refusal_number r) → ⊥)
+  heard-told : is_frame line ≡ true → (r : Refusal) → (heard_in m line).0 ≡ Err r → (IsRepeat (links_in m) (frame_heard line) (refusal_number r) → ⊥)
       → TellsRefusal m line (origin_in m (frame_heard line)) (refusal_number r)
   unfolding heard_step
   heard-told f r e h =
       let p = frame_heard line in
-      let n = refusal_number r in
-      cases (is_repeat (next_of (links_in m) (addressed provisioner (links_in m) p)) p n)
-      (λ k. absurd (h (repeat-is (links_in m) p n k)))
+      cases (is_repeat (next_of (links_in m) (addressed provisioner (links_in m) p)) p r)
+      (λ k. absurd (h (repeat-is (links_in m) p r k)))
       (λ k. report (heard-line m line f) ∙ rw (e, k))
 
-  repeat-quiet : is_frame line ≡ true → (r : Refusal) → (heard_in m line).0 ≡ A.Refused r → IsRepeat (links_in m) (frame_heard line) (refusal_number r)
-      → report_in m line ≡ R.Nothing
+  repeat-quiet : is_frame line ≡ true → (r : Refusal) → (heard_in m line).0 ≡ Err r → IsRepeat (links_in m) (frame_heard line) (refusal_number r)
+      → report_in m line ≡ None
   unfolding heard_step
-  repeat-quiet f r e h = report (heard-line m line f) ∙ rw (e, is-repeat (links_in m) (frame_heard line) (refusal_number r) h)
+  repeat-quiet f r e h = report (heard-line m line f) ∙ rw (e, is-repeat (links_in m) (frame_heard line) r h)
 
-  message-told : is_frame line ≡ true → (n : ℕ) (t : TransactionNumber) → (heard_in m line).0 ≡ A.Delivered n t
-      → (s : ℕ) → addressed provisioner (links_in m) (frame_heard line) ≡ At s
-      → (r : MessageRefusal) → message_read (part (heard_in m line).1.area (1469 * s) n) ≡ M.Refused r
+  message-told : is_frame line ≡ true → (n : ℕ) (t : TransactionNumber) → (heard_in m line).0 ≡ Ok (A.Delivered n t)
+      → (s : ℕ) → addressed provisioner (links_in m) (frame_heard line) ≡ Some s
+      → (r : MessageRefusal) → message_read (part (heard_in m line).1.area (1469 * s) n) ≡ Err r
       → TellsRefusal m line (origin_in m (frame_heard line)) (message_number r)
   unfolding heard_step
   message-told f n t e s q r u = report (heard-line m line f) ∙ rw (e, q, u)
 
-  broken-told : is_sent line ≡ true → (r : FrameRefusal) → frame_sent line ≡ P.Refused r → TellsRefusal m line unknown (frame_number r)
+  broken-told : is_sent line ≡ true → (r : FrameRefusal) → frame_sent line ≡ Err r → TellsRefusal m line unknown (frame_number r)
   unfolding sent_step
-  broken-told k r e = report (sent-step k) ∙ rw e
+  broken-told k Malformed e = report (sent-step k) ∙ rw e
+  broken-told k UnknownOpcode e = report (sent-step k) ∙ rw e
 
-  unknown-told : (g : Segment) (n : ℕ) → StartSent line g n → addressed provisioner (links_in m) (frame_sent line) ≡ Nowhere
+  unknown-told : (g : Segment) (n : ℕ) → StartSent line g n → addressed provisioner (links_in m) (frame_sent line) ≡ None
       → TellsRefusal m line (origin_in m (frame_sent line)) 3
   unfolding sent_step
   unknown-told g n k q =
-      let w : find (links_in m) g.id ≡ Nowhere = ap (addressed provisioner (links_in m)) (sym k.frame) ∙ q in
+      let w : find (links_in m) g.id ≡ None = ap (addressed provisioner (links_in m)) (sym k.frame) ∙ q in
       report (sent-step k.marked) ∙ rw (k.frame, k.header, w)
 
-  start-told : (g : Segment) (n : ℕ) → StartSent line g n → (s : ℕ) → addressed provisioner (links_in m) (frame_sent line) ≡ At s
+  start-told : (g : Segment) (n : ℕ) → StartSent line g n → (s : ℕ) → addressed provisioner (links_in m) (frame_sent line) ≡ Some s
       → (get_or (links_in m) s no_link).outstanding ≡ false → (get_or (links_in m) s no_link).next ≡ g.number
-      → (r : Refusal) → (local_send Provisioner (links_in m) (socket_at s) n).0 ≡ A.Refused r
+      → (r : Refusal) → (local_send Provisioner (links_in m) (socket_at s) n).0 ≡ Err r
       → TellsRefusal m line (origin_in m (frame_sent line)) (refusal_number r)
   unfolding sent_step
   start-told g n k s q u v r e =
-      let w : find (links_in m) g.id ≡ At s = ap (addressed provisioner (links_in m)) (sym k.frame) ∙ q in
+      let w : find (links_in m) g.id ≡ Some s = ap (addressed provisioner (links_in m)) (sym k.frame) ∙ q in
       let x : eqb (get_or (links_in m) s no_link).next.0 g.number.0 ≡ true = eq-eqb _ _ (ap (λ (y : TransactionNumber). y.0) v) in
       report (sent-step k.marked) ∙ rw (k.frame, k.header, w, u, x, e)
 
-  close-told : is_sent line ≡ true → (id reason : ℕ) → frame_sent line ≡ P.Close id reason → (s : ℕ) → addressed provisioner (links_in m) (frame_sent line) ≡ At s
-      → (r : Refusal) → (local_close Provisioner (links_in m) (socket_at s)).0 ≡ A.Refused r
+  close-told : is_sent line ≡ true → (id reason : ℕ) → frame_sent line ≡ Ok (P.Close id reason) → (s : ℕ) → addressed provisioner (links_in m) (frame_sent line) ≡ Some s
+      → (r : Refusal) → (local_close Provisioner (links_in m) (socket_at s)).0 ≡ Err r
       → TellsRefusal m line (origin_in m (frame_sent line)) (refusal_number r)
   unfolding sent_step
   close-told k id reason p s q r e =
-      let w : find (links_in m) id ≡ At s = ap (addressed provisioner (links_in m)) (sym p) ∙ q in
+      let w : find (links_in m) id ≡ Some s = ap (addressed provisioner (links_in m)) (sym p) ∙ q in
       report (sent-step k) ∙ rw (p, w, e)
 
 -- EVERY REFUSAL IS TOLD
@@ -181,27 +179,27 @@ every-refusal m line = record {
 
 -- ---- the lines that write nothing
 
-no_row : {row : Row} → R.Row row ≡ R.Nothing → ⊥
+no_row : {row : Row} → Some row ≡ None → ⊥
 no_row e = let z : ◌≡◌ {A = ℕ} 0 1 = cc in omega arith
 
 -- a frame that no record in use has the Link ID of is refused
-unknown-refused : (σ : Station) (f : List ℕ) → addressed provisioner σ.links (parsed f) ≡ Nowhere → (r : Refusal) × ((received provisioner σ f).0 ≡ A.Refused r)
+unknown-refused : (σ : Station) (f : List ℕ) → addressed provisioner σ.links (parsed f) ≡ None → (r : Refusal) × ((received provisioner σ f).0 ≡ Err r)
 unfolding received
 unknown-refused σ f q =
     cases (eqb (length σ.area) (1469 * length σ.links))
     (λ a. rw a (cases (good Provisioner σ.links) (λ g. rw g (of (parsed f) q)) (λ g. rw g (_, refl))))
     (λ a. rw a (_, refl))
   where
-    of : (p : Parsed) → addressed provisioner σ.links p ≡ Nowhere → (r : Refusal) × ((on_frame provisioner σ f p).0 ≡ A.Refused r)
-    of (P.Segment s) q = rw q (_, refl)
-    of (P.Acknowledgement id t) q = rw q (_, refl)
-    of (P.Open id uuid) q = rw q (_, refl)
-    of (P.Ack id) q = rw q (_, refl)
-    of (P.Close id reason) q = rw q (_, refl)
-    of (P.Refused r) q = (_, refl)
+    of : (p : Result Frame FrameRefusal) → addressed provisioner σ.links p ≡ None → (r : Refusal) × ((on_frame provisioner σ f p).0 ≡ Err r)
+    of (Ok (P.Segment s)) q = rw q (_, refl)
+    of (Ok (P.Acknowledgement id t)) q = rw q (_, refl)
+    of (Ok (P.Open id uuid)) q = rw q (_, refl)
+    of (Ok (P.Ack id)) q = rw q (_, refl)
+    of (Ok (P.Close id reason)) q = rw q (_, refl)
+    of (Err r) q = (_, refl)
 
 -- a message that is delivered writes a row
-message-row : (tray : Tray) (s number : ℕ) (origin : Origin) (message : Message) → (message_step tray s number origin message).report ≡ R.Nothing → ⊥
+message-row : (tray : Tray) (s number : ℕ) (origin : Origin) (message : Result Message MessageRefusal) → (message_step tray s number origin message).report ≡ None → ⊥
 message-row tray s number origin message q = of (becomes tray s number origin message)
   where
     row : {t : Tray} {r : Row} → message_step tray s number origin message ≡ row_after t r → ⊥
@@ -214,25 +212,25 @@ message-row tray s number origin message q = of (becomes tray s number origin me
     of (refuses n e) = row e
 
 -- an answer that comes to nothing
-no-refusal : {a : Answer} → outcome_of a ≡ O.Nothing → NoRefusal a
-no-refusal e r x = let q : O.Nothing ≡ O.Refused (refusal_number r) = sym e ∙ ap outcome_of x in let z : ◌≡◌ {A = ℕ} 0 1 = cc in omega arith
+no-refusal : {a : Result Answer Refusal} → outcome_of a ≡ Ok None → NoRefusal a
+no-refusal e r x = let q : ◌≡◌ {A = Result (Option Delivery) Refusal} (Ok None) (Err r) = sym e ∙ ap outcome_of x in let z : ◌≡◌ {A = ℕ} 0 1 = cc in omega arith
 
-no-delivery : {a : Answer} → outcome_of a ≡ O.Nothing → NoDelivery a
-no-delivery e n t x = let q : O.Nothing ≡ O.Delivered n t = sym e ∙ ap outcome_of x in let z : ◌≡◌ {A = ℕ} 0 1 = cc in omega arith
+no-delivery : {a : Result Answer Refusal} → outcome_of a ≡ Ok None → NoDelivery a
+no-delivery e n t x = let q : ◌≡◌ {A = Result (Option Delivery) Refusal} (Ok None) (Ok (Some (delivery n t))) = sym e ∙ ap outcome_of x in let z : ◌≡◌ {A = ℕ} 0 1 = cc in omega arith
 
 -- a call that is not refused
-local-quiet : (a : Answer) → NoRefusal a → (tray : Tray) (number : ℕ) (origin : Origin) → (local_by (outcome_of a) tray number origin).report ≡ R.Nothing
-local-quiet (A.Refused r) h tray number origin = absurd (h r refl)
-local-quiet A.AcknowledgeAgain h tray number origin = refl
-local-quiet A.Kept h tray number origin = refl
-local-quiet A.Repeat h tray number origin = refl
-local-quiet (A.Delivered n t) h tray number origin = refl
-local-quiet A.Opened h tray number origin = refl
-local-quiet A.Already h tray number origin = refl
-local-quiet (A.Closed reason) h tray number origin = refl
-local-quiet A.Acknowledged h tray number origin = refl
-local-quiet (A.Sending t n) h tray number origin = refl
-local-quiet A.Done h tray number origin = refl
+local-quiet : (a : Result Answer Refusal) → NoRefusal a → (tray : Tray) (number : ℕ) (origin : Origin) → (local_by (outcome_of a) tray number origin).report ≡ None
+local-quiet (Err r) h tray number origin = absurd (h r refl)
+local-quiet (Ok A.AcknowledgeAgain) h tray number origin = refl
+local-quiet (Ok A.Kept) h tray number origin = refl
+local-quiet (Ok A.Repeat) h tray number origin = refl
+local-quiet (Ok (A.Delivered n t)) h tray number origin = refl
+local-quiet (Ok A.Opened) h tray number origin = refl
+local-quiet (Ok A.Already) h tray number origin = refl
+local-quiet (Ok (A.Closed reason)) h tray number origin = refl
+local-quiet (Ok A.Acknowledged) h tray number origin = refl
+local-quiet (Ok (A.Sending t n)) h tray number origin = refl
+local-quiet (Ok A.Done) h tray number origin = refl
 
 -- a line that is passed over is of no other kind
 passed-kinds : (line : List ℕ) → is_passed line ≡ true → (is_frame line ≡ false) × (is_marked_sent line ≡ false) × (is_opening line ≡ false)
@@ -261,76 +259,76 @@ module _ (m : Import) (line : List ℕ) where
 
   -- ---- a frame heard
 
-  abbrev heard_as : Answer → Step
+  abbrev heard_as : Result Answer Refusal → Step
   heard_as a = heard_by (outcome_of a) (links_in m) (frame_heard line) behind (heard_in m line).1.area (number_in m)
 
   heard-is : is_frame line ≡ true → report_in m line ≡ (heard_as (heard_in m line).0).report
   unfolding heard_step
   heard-is f = ap (λ (x : Step). x.report) (heard-line m line f)
 
-  heard-quiet : is_frame line ≡ true → (a : Answer) → (heard_in m line).0 ≡ a → (heard_as a).report ≡ R.Nothing → IsQuiet m line
-  heard-quiet f (A.Refused r) e q =
+  heard-quiet : is_frame line ≡ true → (a : Result Answer Refusal) → (heard_in m line).0 ≡ a → (heard_as a).report ≡ None → IsQuiet m line
+  heard-quiet f (Err r) e q =
       let p = frame_heard line in
-      cases (is_repeat (next_of (links_in m) (addressed provisioner (links_in m) p)) p (refusal_number r))
-      (λ k. repeats f r e (repeat-is (links_in m) p (refusal_number r) k))
+      cases (is_repeat (next_of (links_in m) (addressed provisioner (links_in m) p)) p r)
+      (λ k. repeats f r e (repeat-is (links_in m) p r k))
       (λ k. absurd (no_row (rw k at q)))
-  heard-quiet f (A.Delivered n t) e q = of (addressed provisioner (links_in m) (frame_heard line)) refl q
+  heard-quiet f (Ok (A.Delivered n t)) e q = of (addressed provisioner (links_in m) (frame_heard line)) refl q
     where
-      of : (found : Found) → addressed provisioner (links_in m) (frame_heard line) ≡ found
-          → (delivered_step found (frame_heard line) behind (heard_in m line).1.area (number_in m) n).report ≡ R.Nothing → IsQuiet m line
-      of (At s) u w =
+      of : (found : Option ℕ) → addressed provisioner (links_in m) (frame_heard line) ≡ found
+          → (delivered_step found (frame_heard line) behind (heard_in m line).1.area (number_in m) n).report ≡ None → IsQuiet m line
+      of (Some s) u w =
           let message = message_read (part (heard_in m line).1.area (1469 * s) n) in
-          absurd (message-row behind s (number_in m) (frame_origin (At s) (frame_heard line)) message w)
-      of Nowhere u w =
+          absurd (message-row behind s (number_in m) (frame_origin (Some s) (frame_heard line)) message w)
+      of None u w =
           let x = unknown-refused (station_of here m.area) (octets_of line) u in
-          let y : A.Refused x.0 ≡ A.Delivered n t = sym x.1 ∙ e in
+          let y : Err x.0 ≡ Ok (A.Delivered n t) = sym x.1 ∙ e in
           let z : ◌≡◌ {A = ℕ} 0 1 = cc in absurd (omega arith)
-  heard-quiet f A.AcknowledgeAgain e q = heard f (no-refusal (ap outcome_of e)) (no-delivery (ap outcome_of e))
-  heard-quiet f A.Kept e q = heard f (no-refusal (ap outcome_of e)) (no-delivery (ap outcome_of e))
-  heard-quiet f A.Repeat e q = heard f (no-refusal (ap outcome_of e)) (no-delivery (ap outcome_of e))
-  heard-quiet f A.Opened e q = heard f (no-refusal (ap outcome_of e)) (no-delivery (ap outcome_of e))
-  heard-quiet f A.Already e q = heard f (no-refusal (ap outcome_of e)) (no-delivery (ap outcome_of e))
-  heard-quiet f (A.Closed reason) e q = heard f (no-refusal (ap outcome_of e)) (no-delivery (ap outcome_of e))
-  heard-quiet f A.Acknowledged e q = heard f (no-refusal (ap outcome_of e)) (no-delivery (ap outcome_of e))
-  heard-quiet f (A.Sending t n) e q = heard f (no-refusal (ap outcome_of e)) (no-delivery (ap outcome_of e))
-  heard-quiet f A.Done e q = heard f (no-refusal (ap outcome_of e)) (no-delivery (ap outcome_of e))
+  heard-quiet f (Ok A.AcknowledgeAgain) e q = heard f (no-refusal (ap outcome_of e)) (no-delivery (ap outcome_of e))
+  heard-quiet f (Ok A.Kept) e q = heard f (no-refusal (ap outcome_of e)) (no-delivery (ap outcome_of e))
+  heard-quiet f (Ok A.Repeat) e q = heard f (no-refusal (ap outcome_of e)) (no-delivery (ap outcome_of e))
+  heard-quiet f (Ok A.Opened) e q = heard f (no-refusal (ap outcome_of e)) (no-delivery (ap outcome_of e))
+  heard-quiet f (Ok A.Already) e q = heard f (no-refusal (ap outcome_of e)) (no-delivery (ap outcome_of e))
+  heard-quiet f (Ok (A.Closed reason)) e q = heard f (no-refusal (ap outcome_of e)) (no-delivery (ap outcome_of e))
+  heard-quiet f (Ok A.Acknowledged) e q = heard f (no-refusal (ap outcome_of e)) (no-delivery (ap outcome_of e))
+  heard-quiet f (Ok (A.Sending t n)) e q = heard f (no-refusal (ap outcome_of e)) (no-delivery (ap outcome_of e))
+  heard-quiet f (Ok A.Done) e q = heard f (no-refusal (ap outcome_of e)) (no-delivery (ap outcome_of e))
 
-  quiet-heard : (a : Answer) → NoRefusal a → NoDelivery a → (heard_as a).report ≡ R.Nothing
-  quiet-heard (A.Refused r) h g = absurd (h r refl)
-  quiet-heard A.AcknowledgeAgain h g = refl
-  quiet-heard A.Kept h g = refl
-  quiet-heard A.Repeat h g = refl
-  quiet-heard (A.Delivered n t) h g = absurd (g n t refl)
-  quiet-heard A.Opened h g = refl
-  quiet-heard A.Already h g = refl
-  quiet-heard (A.Closed reason) h g = refl
-  quiet-heard A.Acknowledged h g = refl
-  quiet-heard (A.Sending t n) h g = refl
-  quiet-heard A.Done h g = refl
+  quiet-heard : (a : Result Answer Refusal) → NoRefusal a → NoDelivery a → (heard_as a).report ≡ None
+  quiet-heard (Err r) h g = absurd (h r refl)
+  quiet-heard (Ok A.AcknowledgeAgain) h g = refl
+  quiet-heard (Ok A.Kept) h g = refl
+  quiet-heard (Ok A.Repeat) h g = refl
+  quiet-heard (Ok (A.Delivered n t)) h g = absurd (g n t refl)
+  quiet-heard (Ok A.Opened) h g = refl
+  quiet-heard (Ok A.Already) h g = refl
+  quiet-heard (Ok (A.Closed reason)) h g = refl
+  quiet-heard (Ok A.Acknowledged) h g = refl
+  quiet-heard (Ok (A.Sending t n)) h g = refl
+  quiet-heard (Ok A.Done) h g = refl
 
   -- ---- a frame sent
 
-  abbrev sent_as : Asked → Step
+  abbrev sent_as : Result (Option Asked) Refusal → Step
   sent_as a = sent_by a here (number_in m) (origin_in m (frame_sent line))
 
   sent_is : is_sent line ≡ true → report_in m line ≡ (sent_as (asked_by m (frame_sent line))).report
   unfolding sent_step
   sent_is k = ap (λ (x : Step). x.report) (sent-step m line k)
 
-  sent-quiet : (a : Asked) → asked_by m (frame_sent line) ≡ a → (sent_as a).report ≡ R.Nothing → SentQuiet m (frame_sent line)
-  sent-quiet Q.Nothing e q = asks_nothing e
-  sent-quiet (Q.Refused n) e q = absurd (no_row q)
-  sent-quiet (Q.Send s n) e q = sends s n e (λ r x. no_row (rw x at q))
-  sent-quiet (Q.Close s) e q = closes s e (λ r x. no_row (rw x at q))
+  sent-quiet : (a : Result (Option Asked) Refusal) → asked_by m (frame_sent line) ≡ a → (sent_as a).report ≡ None → SentQuiet m (frame_sent line)
+  sent-quiet (Ok None) e q = asks_nothing e
+  sent-quiet (Err r) e q = absurd (no_row q)
+  sent-quiet (Ok (Some (Q.Send s n))) e q = sends s n e (λ r x. no_row (rw x at q))
+  sent-quiet (Ok (Some (Q.Close s))) e q = closes s e (λ r x. no_row (rw x at q))
 
-  quiet-sent : SentQuiet m (frame_sent line) → (sent_as (asked_by m (frame_sent line))).report ≡ R.Nothing
-  quiet-sent (asks_nothing e) = ap (λ (a : Asked). (sent_as a).report) e
-  quiet-sent (sends s n e h) = ap (λ (a : Asked). (sent_as a).report) e ∙ local-quiet (local_send Provisioner (links_in m) s n).0 h _ _ _
-  quiet-sent (closes s e h) = ap (λ (a : Asked). (sent_as a).report) e ∙ local-quiet (local_close Provisioner (links_in m) s).0 h _ _ _
+  quiet-sent : SentQuiet m (frame_sent line) → (sent_as (asked_by m (frame_sent line))).report ≡ None
+  quiet-sent (asks_nothing e) = ap (λ (a : Result (Option Asked) Refusal). (sent_as a).report) e
+  quiet-sent (sends s n e h) = ap (λ (a : Result (Option Asked) Refusal). (sent_as a).report) e ∙ local-quiet (local_send Provisioner (links_in m) s n).0 h _ _ _
+  quiet-sent (closes s e h) = ap (λ (a : Result (Option Asked) Refusal). (sent_as a).report) e ∙ local-quiet (local_close Provisioner (links_in m) s).0 h _ _ _
 
   -- ---- an opening
 
-  opening-quiet : is_opening line ≡ true → report_in m line ≡ R.Nothing → IsQuiet m line
+  opening-quiet : is_opening line ≡ true → report_in m line ≡ None → IsQuiet m line
   opening-quiet o q = of (open-calls Provisioner (links_in m) s id)
     where
       s : Socket
@@ -339,21 +337,21 @@ module _ (m : Import) (line : List ℕ) where
       id : ℕ
       id = id_in line
 
-      of : Calls Provisioner (links_in m) s (is_found (find (links_in m) id) ≡ false) A.Done (blank_with Provisioner L.Opening id)
+      of : Calls Provisioner (links_in m) s (is_found (find (links_in m) id) ≡ false) (Ok A.Done) (blank_with Provisioner L.Opening id)
           (local_open Provisioner (links_in m) s id) → IsQuiet m line
-      of (refusal r e) = absurd (no_row (sym (opening-told m line o r (ap (λ (x : Answer × List Link). x.0) e)) ∙ q))
-      of (written r g u e) = opens s id (record { form = o; socket = refl; link_id = refl; done = ap (λ (x : Answer × List Link). told x.0) e })
+      of (refusal r e) = absurd (no_row (sym (opening-told m line o r (ap (λ (x : Result Answer Refusal × List Link). x.0) e)) ∙ q))
+      of (written r g u e) = opens s id (record { form = o; socket = refl; link_id = refl; done = ap (λ (x : Result Answer Refusal × List Link). told x.0) e })
 
   -- ---- any line
 
-  passed-quiet : is_passed line ≡ true → report_in m line ≡ R.Nothing
+  passed-quiet : is_passed line ≡ true → report_in m line ≡ None
   unfolding line_step unheard_step other_step plain_step
   passed-quiet p = let k = passed-kinds line p in ap (λ (x : Step). x.report) (step k.0 k.1 k.2)
     where
       step : is_frame line ≡ false → is_marked_sent line ≡ false → is_opening line ≡ false → step_of m.log m.area line ≡ nothing_after here
       step f k o = rw (f, k, o, p)
 
-  is-quiet : report_in m line ≡ R.Nothing → IsQuiet m line
+  is-quiet : report_in m line ≡ None → IsQuiet m line
   is-quiet q =
       cases (is_frame line) (λ f. heard-quiet f (heard_in m line).0 refl (sym (heard-is f) ∙ q))
       (λ f. cases (is_sent line) (λ k. sent k (sent-quiet (asked_by m (frame_sent line)) refl (sym (sent_is k) ∙ q)))
@@ -361,7 +359,7 @@ module _ (m : Import) (line : List ℕ) where
       (λ o. cases (is_passed line) passed
       (λ p. absurd (no_row (sym (ap (λ (x : Step). x.report) (wrong-step m line f k o p)) ∙ q))))))
 
-  quiet_is : IsQuiet m line → report_in m line ≡ R.Nothing
+  quiet_is : IsQuiet m line → report_in m line ≡ None
   quiet_is (passed p) = passed-quiet p
   quiet_is (opens s id o) = ap (λ (x : Step). x.report) (opened m line s id o).1
   quiet_is (heard f h g) = heard-is f ∙ quiet-heard (heard_in m line).0 h g

@@ -1,4 +1,7 @@
 -- The promises of `specs/Sockets.antt`.
+use Rattle.std.specs.Prelude.{None, Option, Some, Result, Ok}
+use Rattle.links.specs.declared.Answer.{Answer}
+use Rattle.links.specs.declared.Refusal.{Refusal}
 use Prim.Native.Nat.{ℕ, zero, suc, ◌≤◌, ◌<◌}
 use native.Mathlib.Omega.{arith}
 use mathlib.Core.Bool.{true, false, false≢true}
@@ -18,7 +21,6 @@ use Rattle.links.specs.Station.{is_found, local_open}
 use Rattle.links.specs.declared.Side.TheVariants.{Provisioner}
 use Rattle.links.specs.declared.LinkState.TheVariants as L
 use Rattle.links.specs.declared.Link.{Link}
-use Rattle.links.specs.declared.Answer.{Answer}
 use Rattle.links.specs.declared.Answer.TheVariants as A
 use Rattle.links.proofs.Local.{Calls, refusal, written, open-calls}
 use Rattle.links.proofs.Sockets.{place-below}
@@ -26,15 +28,12 @@ use Rattle.provisioning.specs.declared.Capabilities.{Capabilities}
 use Rattle.line_fields.specs.declared.Word.{Word}
 use Rattle.line_fields.specs.declared.Word.TheVariants as W
 use Rattle.line_fields.specs.declared.Field.TheVariants as F
+use Rattle.std.specs.Prelude.{Some}
 use Rattle.stock_table.specs.Rows.{socket_row}
-use Rattle.stock_table.specs.declared.Stated.TheVariants as T
 use Rattle.stock_table.specs.declared.Row.{Row}
-use Rattle.import_tray.specs.Trays.{stock_of, stock_at, last_by}
-use Rattle.import_tray.specs.declared.SocketStock.{SocketStock}
+use Rattle.import_tray.specs.Trays.{stock_at, last_by}
 use Rattle.import_tray.specs.declared.Stock.{Stock}
 use Rattle.import_tray.specs.declared.Stock.TheVariants as K
-use Rattle.import_tray.specs.declared.Report.{Report}
-use Rattle.import_tray.specs.declared.Report.TheVariants as R
 use Rattle.import_tray.specs.declared.Step.{Step}
 use Rattle.log_lines.specs.Lines.{is_opening, socket_in, id_in}
 use Rattle.import_log.specs.Logs.{Import, after, after_all, at_first}
@@ -62,13 +61,13 @@ decide m line s =
     links = m.log.tray.links
 
     by : is_opening line ≡ true → socket_in line ≡ s
-        → Calls Provisioner links s (is_found (find links (id_in line)) ≡ false) A.Done (blank_with Provisioner L.Opening (id_in line))
+        → Calls Provisioner links s (is_found (find links (id_in line)) ≡ false) (Ok A.Done) (blank_with Provisioner L.Opening (id_in line))
         (local_open Provisioner links s (id_in line))
         → Opening m line s ⊎ (Opening m line s → ⊥)
     by f g (refusal q e) =
         inr (λ o. other-told _ _ refl
-        (sym (ap (λ (x : Answer × List Link). told x.0) e) ∙ ap (λ (id : ℕ). told (local_open Provisioner links s id).0) o.1.link_id ∙ o.1.done))
-    by f g (written r q u e) = inl (id_in line, record { form = f; socket = g; link_id = refl; done = ap (λ (x : Answer × List Link). told x.0) e })
+        (sym (ap (λ (x : Result Answer Refusal × List Link). told x.0) e) ∙ ap (λ (id : ℕ). told (local_open Provisioner links s id).0) o.1.link_id ∙ o.1.done))
+    by f g (written r q u e) = inl (id_in line, record { form = f; socket = g; link_id = refl; done = ap (λ (x : Result Answer Refusal × List Link). told x.0) e })
 
 -- ---- the latest opening among lines, if there is one
 
@@ -129,7 +128,7 @@ opened-before before line s r =
 
 -- ---- what the stock says
 
-same-all : (n i : ℕ) → (get_or (replicate n (stock_of K.Unopened)) i (stock_of K.Unopened)).stock ≡ K.Unopened
+same-all : (n i : ℕ) → get_or (replicate n K.Unopened) i K.Unopened ≡ K.Unopened
 same-all zero i = refl
 same-all (suc n) zero = refl
 same-all (suc n) (suc i) = same-all n i
@@ -177,7 +176,7 @@ module _ (lines : List (List ℕ)) (s : Socket) (numbered : is_socket s 8 ≡ tr
         let old = m.log.tray.stock in
         let below : socket_place s < length old = omega (arith, place-below s 8 numbered, stock-counts at_first o.before) in
         ap (λ (x : Step). stock_at x.tray (socket_place s)) (opened-step m o.opening s id o.opens).1
-        ∙ ap (λ (k : SocketStock). k.stock) (get_or-set_same old (socket_place s) (stock_of K.Missing) (stock_of K.Unopened) below)
+        ∙ get_or-set_same old (socket_place s) K.Missing K.Unopened below
 
     -- missing, or recorded since
     data Since : Type 0 where
@@ -191,7 +190,7 @@ module _ (lines : List (List ℕ)) (s : Socket) (numbered : is_socket s 8 ≡ tr
         of (unchanged e) = is_missing (ap (λ (n : Import). stock_in n s) at-end ∙ e ∙ first-missing)
         of (opened_in k) = absurd (no_other k)
         of (recorded_in c was now k) =
-            let w : (r : RecordsAt (after_all at_first (o.before ++ (o.opening ∷ k.front))) k.line s) × (r.row.stated ≡ T.Fields c) =
+            let w : (r : RecordsAt (after_all at_first (o.before ++ (o.opening ∷ k.front))) k.line s) × (r.row.stated ≡ Some c) =
             rw (here k.front) (k.records, k.stated) in
             is_since c (record { between = k.front; line = k.line; rest = k.rest; split = k.split; records = w.0; stated = w.1 })
 
@@ -258,9 +257,9 @@ module _ (lines : List (List ℕ)) (s : Socket) (numbered : is_socket s 8 ≡ tr
       of (inr n) = is_unopened n (never-stock n)
 
 -- the word of a report, if it has one
-abbrev word_in : Report → Word
-word_in R.Nothing = W.End
-word_in (R.Row row) = row.what
+abbrev word_in : Option Row → Word
+word_in None = W.End
+word_in (Some row) = row.what
 
 -- THE SOCKETS AFTER THE LAST LINE
 pub sockets-told : SocketsTold
@@ -273,19 +272,19 @@ sockets-told lines s numbered = record {
     stock : Stock
     stock = stock_in (after_all at_first lines) s
 
-    told-by : Stock → Report
+    told-by : Stock → Option Row
     told-by k = last_by k s
 
-    recorded-nothing : (k : Stock) → is_recorded k ≡ true → told-by k ≡ R.Nothing
+    recorded-nothing : (k : Stock) → is_recorded k ≡ true → told-by k ≡ None
     recorded-nothing K.Unopened e = absurd (false≢true e)
     recorded-nothing K.Missing e = absurd (false≢true e)
     recorded-nothing (K.Recorded c) e = refl
 
     -- no two of the reports are the same
-    other : {a b : Report} → report_of lines s ≡ a → report_of lines s ≡ b → word_in a ≡ word_in b
+    other : {a b : Option Row} → report_of lines s ≡ a → report_of lines s ≡ b → word_in a ≡ word_in b
     other p q = ap word_in (sym p ∙ q)
 
-    if-unopened : Status lines s numbered → report_of lines s ≡ R.Row (socket_row W.Unopened s) → NeverOpened lines s
+    if-unopened : Status lines s numbered → report_of lines s ≡ Some (socket_row W.Unopened s) → NeverOpened lines s
     if-unopened (is_unopened h e) q = h
     if-unopened (is_missing h e) q =
         let w : W.Missing ≡ W.Unopened = other (ap told-by e) q in
@@ -294,7 +293,7 @@ sockets-told lines s numbered = record {
         let w : W.End ≡ W.Unopened = other (recorded-nothing stock e) q in
         let z : ◌≡◌ {A = ℕ} 0 1 = cc in absurd (omega arith)
 
-    if-missing : Status lines s numbered → report_of lines s ≡ R.Row (socket_row W.Missing s) → NoRecordSince lines s
+    if-missing : Status lines s numbered → report_of lines s ≡ Some (socket_row W.Missing s) → NoRecordSince lines s
     if-missing (is_unopened h e) q =
         let w : W.Unopened ≡ W.Missing = other (ap told-by e) q in
         let z : ◌≡◌ {A = ℕ} 0 1 = cc in absurd (omega arith)
@@ -303,7 +302,7 @@ sockets-told lines s numbered = record {
         let w : W.End ≡ W.Missing = other (recorded-nothing stock e) q in
         let z : ◌≡◌ {A = ℕ} 0 1 = cc in absurd (omega arith)
 
-    if-nothing : Status lines s numbered → report_of lines s ≡ R.Nothing → HasRecord lines s
+    if-nothing : Status lines s numbered → report_of lines s ≡ None → HasRecord lines s
     if-nothing (is_unopened h e) q =
         let w : W.Unopened ≡ W.End = other (ap told-by e) q in
         let z : ◌≡◌ {A = ℕ} 0 1 = cc in absurd (omega arith)
@@ -312,6 +311,6 @@ sockets-told lines s numbered = record {
         let z : ◌≡◌ {A = ℕ} 0 1 = cc in absurd (omega arith)
     if-nothing (has_record h e) q = h
 
-    then-missing : (k : NoRecordSince lines s) → Since lines s numbered k.id k.opened → report_of lines s ≡ R.Row (socket_row W.Missing s)
+    then-missing : (k : NoRecordSince lines s) → Since lines s numbered k.id k.opened → report_of lines s ≡ Some (socket_row W.Missing s)
     then-missing k (is_missing e) = ap told-by e
     then-missing k (is_since c r) = absurd (k.none c r)

@@ -1,5 +1,7 @@
 -- The stock of a socket: what a line does to it, and lines; and that a `record` row finds nothing recorded.
 use Prim.Native.Nat.{ℕ, zero, suc, ◌+◌, ◌≤◌, ◌<◌}
+use Rattle.pb_adv.specs.declared.Frame.{Frame}
+use Rattle.pb_adv.specs.declared.FrameRefusal.{FrameRefusal}
 use native.Mathlib.Omega.{arith}
 use mathlib.Core.Bool.{true, false, false≢true}
 use mathlib.Core.List.{List, [], ◌∷◌, ◌++◌}
@@ -14,19 +16,16 @@ use Rattle.hexadecimal.specs.Hex.{octets_of}
 use Rattle.transactions.specs.Numbers.{is_socket, socket_place}
 use Rattle.transactions.specs.declared.Socket.{Socket}
 use Rattle.pb_adv.specs.Frame.{parsed}
-use Rattle.pb_adv.specs.declared.Parsed.{Parsed}
-use Rattle.pb_adv.specs.declared.Parsed.TheVariants as P
+use Rattle.pb_adv.specs.declared.Frame.TheVariants as P
 use Rattle.links.specs.Links.{provisioner}
 use Rattle.links.specs.Promises.{addressed}
 use Rattle.links.specs.declared.Link.{Link}
-use Rattle.links.specs.declared.Found.TheVariants.{At}
 use Rattle.provisioning.specs.declared.Capabilities.{Capabilities}
 use Rattle.line_fields.specs.declared.Word.TheVariants as W
 use Rattle.line_fields.specs.declared.Field.TheVariants as F
-use Rattle.stock_table.specs.declared.Stated.TheVariants as T
+use Rattle.std.specs.Prelude.{Some, Result, Ok, Err}
 use Rattle.stock_table.specs.declared.Row.{Row}
-use Rattle.import_tray.specs.Trays.{stock_of, stock_at}
-use Rattle.import_tray.specs.declared.SocketStock.{SocketStock}
+use Rattle.import_tray.specs.Trays.{stock_at}
 use Rattle.import_tray.specs.declared.Stock.{Stock}
 use Rattle.import_tray.specs.declared.Stock.TheVariants as K
 use Rattle.import_tray.specs.declared.Step.{Step}
@@ -45,13 +44,13 @@ same-socket : (s t : Socket) → 1 ≤ s.0 → 1 ≤ t.0 → socket_place s ≡ 
 same-socket s t a b e = let q : s.0 ≡ t.0 = omega arith in λ i. record { 0 = q i }
 
 -- the socket that a row of a message shows
-pub origin-socket : (ls : List Link) (s : ℕ) (p : Parsed) → addressed provisioner ls p ≡ At s → (frame_origin (At s) p).socket ≡ F.Decimal (s + 1)
-origin-socket ls s (P.Segment g) e = refl
-origin-socket ls s (P.Acknowledgement id t) e = refl
-origin-socket ls s (P.Open id uuid) e = refl
-origin-socket ls s (P.Ack id) e = refl
-origin-socket ls s (P.Close id reason) e = refl
-origin-socket ls s (P.Refused r) e = let z : ◌≡◌ {A = ℕ} 0 1 = cc in absurd (omega arith)
+pub origin-socket : (ls : List Link) (s : ℕ) (p : Result Frame FrameRefusal) → addressed provisioner ls p ≡ Some s → (frame_origin (Some s) p).socket ≡ F.Decimal (s + 1)
+origin-socket ls s (Ok (P.Segment g)) e = refl
+origin-socket ls s (Ok (P.Acknowledgement id t)) e = refl
+origin-socket ls s (Ok (P.Open id uuid)) e = refl
+origin-socket ls s (Ok (P.Ack id)) e = refl
+origin-socket ls s (Ok (P.Close id reason)) e = refl
+origin-socket ls s (Err r) e = let z : ◌≡◌ {A = ℕ} 0 1 = cc in absurd (omega arith)
 
 -- ---- a line
 
@@ -60,22 +59,19 @@ pub data StockAfter (m : Import) (line : List ℕ) (s : Socket) (new : Stock) : 
   same : new ≡ stock_in m s → StockAfter m line s new
   opened : (id : ℕ) → Opens m line s id → StockAfter m line s new
   recorded : (c : Capabilities) → is_recorded (stock_in m s) ≡ false → new ≡ K.Recorded c → (d : Delivered m line) → d.place ≡ socket_place s
-      → (r : RecordsAt m line s) → r.row.stated ≡ T.Fields c → StockAfter m line s new
+      → (r : RecordsAt m line s) → r.row.stated ≡ Some c → StockAfter m line s new
 
 pub stock-after : (m : Import) (line : List ℕ) (s : Socket) → 1 ≤ s.0 → StockAfter m line s (stock_in (after m line) s)
 stock-after m line s some = of (says m line)
   where
-    old : List SocketStock
+    old : List Stock
     old = m.log.tray.stock
 
     p : ℕ
     p = socket_place s
 
-    field : SocketStock → Stock
-    field k = k.stock
-
-    new : {stock : List SocketStock} → (after m line).log.tray.stock ≡ stock → stock_in (after m line) s ≡ (get_or stock p (stock_of K.Unopened)).stock
-    new e = ap (λ (l : List SocketStock). (get_or l p (stock_of K.Unopened)).stock) e
+    new : {stock : List Stock} → (after m line).log.tray.stock ≡ stock → stock_in (after m line) s ≡ get_or stock p K.Unopened
+    new e = ap (λ (l : List Stock). get_or l p K.Unopened) e
 
     of-message : (d : Delivered m line) → BecomesOf m line d (step_of m.log m.area line) → StockAfter m line s (stock_in (after m line) s)
     of-message d (records c u g e) =
@@ -84,9 +80,9 @@ stock-after m line s some = of (says m line)
         cases (eqb j p)
         (λ h. let q : j ≡ p = eqb-true j p h in
         cases (leb (length old) j)
-        (λ b. same (new (stock ∙ set_out old j (stock_of (K.Recorded c)) (leb-true (length old) j b))))
+        (λ b. same (new (stock ∙ set_out old j (K.Recorded c) (leb-true (length old) j b))))
         (λ b. recorded c (rw (← q) g)
-        (new stock ∙ rw (← q) (ap field (get_or-set_same old j (stock_of (K.Recorded c)) (stock_of K.Unopened) (leb-false (length old) j b))))
+        (new stock ∙ rw (← q) (get_or-set_same old j (K.Recorded c) K.Unopened (leb-false (length old) j b)))
         d q
         (record {
           row = _;
@@ -95,7 +91,7 @@ stock-after m line s some = of (says m line)
           socket = origin-socket m.log.tray.links j (parsed (octets_of line)) d.is_for ∙ ap F.Decimal (omega arith);
         })
         refl))
-        (λ h. same (new stock ∙ ap field (get_or-set_other old j p (stock_of (K.Recorded c)) (stock_of K.Unopened) (λ z. eqb-false j p h (sym z)))))
+        (λ h. same (new stock ∙ get_or-set_other old j p (K.Recorded c) K.Unopened (λ z. eqb-false j p h (sym z))))
     of-message d (compares c first u g e) = same (new (ap (λ (x : Step). x.tray.stock) e))
     of-message d (shows u e) = same (new (ap (λ (x : Step). x.tray.stock) e))
     of-message d (refuses n e) = same (new (ap (λ (x : Step). x.tray.stock) e))
@@ -108,11 +104,11 @@ stock-after m line s some = of (says m line)
         (λ g. opened id (subst (λ (u : Socket). Opens m line u id)
         (same-socket t s (leb-true 1 t.0 (both_hold {a = leb 1 t.0} n).0) some (eqb-true (socket_place t) p g)) w))
         (λ g. same (new (ap (λ (x : Step). x.tray.stock) e)
-        ∙ ap field (get_or-set_other old (socket_place t) p (stock_of K.Missing) (stock_of K.Unopened) (λ z. eqb-false (socket_place t) p g (sym z)))))
+        ∙ get_or-set_other old (socket_place t) p K.Missing K.Unopened (λ z. eqb-false (socket_place t) p g (sym z))))
     of (tells d q) = of-message d (becomes-of m line d q)
 
 -- nothing is recorded behind an opening
-missing_at : (l : List SocketStock) (i : ℕ) → is_recorded (get_or (set l i (stock_of K.Missing)) i (stock_of K.Unopened)).stock ≡ false
+missing_at : (l : List Stock) (i : ℕ) → is_recorded (get_or (set l i K.Missing) i K.Unopened) ≡ false
 missing_at [] i = refl
 missing_at (x ∷ l) zero = refl
 missing_at (x ∷ l) (suc i) = missing_at l i
@@ -139,7 +135,7 @@ pub record RecordedIn (m : Import) (lines : List (List ℕ)) (s : Socket) (c : C
   pub rest : List (List ℕ)
   pub split : lines ≡ front ++ (line ∷ rest)
   pub records : RecordsAt (after_all m front) line s
-  pub stated : records.row.stated ≡ T.Fields c
+  pub stated : records.row.stated ≡ Some c
 
 -- lines leave what the table has of a socket, open the socket, or record it where nothing was recorded
 pub data StockAfterAll (m : Import) (lines : List (List ℕ)) (s : Socket) : Type 0 where
@@ -202,7 +198,7 @@ fresh before line s r = of (line_writes m line r.row r.writes)
     m : Import
     m = after_all at_first before
 
-    old : List SocketStock
+    old : List Stock
     old = m.log.tray.stock
 
     what : {row : Row} → r.row ≡ row → row.what ≡ W.Record
@@ -220,8 +216,8 @@ fresh before line s r = of (line_writes m line r.row r.writes)
         record {
           some = omega arith;
           was = rw (← place) was;
-          now = ap (λ (l : List SocketStock). is_recorded (get_or l (socket_place s) (stock_of K.Unopened)).stock) now
-              ∙ rw (← place) (ap (λ (k : SocketStock). is_recorded k.stock) (get_or-set_same old j (stock_of (K.Recorded c)) (stock_of K.Unopened) inside));
+          now = ap (λ (l : List Stock). is_recorded (get_or l (socket_place s) K.Unopened)) now
+              ∙ rw (← place) (ap is_recorded (get_or-set_same old j (K.Recorded c) K.Unopened inside));
         }
     of (is_further d c first u g q) = absurd (further-word first c (what q))
     of (is_message d u q) = let w : W.Message ≡ W.Record = what q in let z : ◌≡◌ {A = ℕ} 0 1 = cc in absurd (omega arith)

@@ -1,5 +1,9 @@
 -- A link from its opening on: lines without a segment or a Close for its Link ID leave it waiting for its first message.
 use Prim.Native.Nat.{ℕ, ◌≤◌}
+use Rattle.links.specs.declared.Answer.{Answer}
+use Rattle.links.specs.declared.Refusal.{Refusal}
+use Rattle.pb_adv.specs.declared.Frame.{Frame}
+use Rattle.pb_adv.specs.declared.FrameRefusal.{FrameRefusal}
 use native.Mathlib.Omega.{arith}
 use mathlib.Core.Bool.{true, false, not, ◌&&◌, false≢true}
 use mathlib.Core.List.{List, [], ◌∷◌}
@@ -8,6 +12,7 @@ use mathlib.Core.Path.{◌≡◌, refl, sym, ap, ◌∙◌, subst}
 use lib.Dec.{eqb, leb}
 use lib.ListN.{get_or, drop}
 use borrow.Author.Tests.{eqb-true, eqb-false, eq-eqb, leb-true}
+use Rattle.std.specs.Prelude.{Ok, Some, Option, None, Result, Err}
 use Rattle.octets.specs.Numbers.{Octets}
 use Rattle.octets.proofs.Tests.{cases, both_hold}
 use Rattle.hexadecimal.specs.Hex.{octets_of}
@@ -17,8 +22,7 @@ use Rattle.transactions.specs.declared.TransactionNumber.{TransactionNumber}
 use Rattle.pb_adv.specs.Frame.{parsed}
 use Rattle.pb_adv.specs.declared.SegmentHeader.{SegmentHeader}
 use Rattle.pb_adv.specs.declared.SegmentHeader.TheVariants.{Start, Continuation}
-use Rattle.pb_adv.specs.declared.Parsed.{Parsed}
-use Rattle.pb_adv.specs.declared.Parsed.TheVariants as P
+use Rattle.pb_adv.specs.declared.Frame.TheVariants as P
 use Rattle.links.specs.Links.{provisioner, in_use, sends, find}
 use Rattle.links.specs.Segments.{OneLink}
 use Rattle.links.specs.Station.{Station, no_link, get_link, acknowledgement_step, frame_step, link_at}
@@ -28,12 +32,7 @@ use Rattle.links.specs.Interleaving.{All}
 use Rattle.links.specs.declared.Side.TheVariants.{Provisioner}
 use Rattle.links.specs.declared.LinkState.{LinkState}
 use Rattle.links.specs.declared.LinkState.TheVariants as S
-use Rattle.links.specs.declared.LastDelivered.TheVariants as L
-use Rattle.links.specs.declared.HalfReceived.TheVariants as H
 use Rattle.links.specs.declared.Link.{Link}
-use Rattle.links.specs.declared.Answer.{Answer}
-use Rattle.links.specs.declared.Found.{Found}
-use Rattle.links.specs.declared.Found.TheVariants.{At, Nowhere}
 use Rattle.links.proofs.Frames.{found-id}
 use Rattle.links.proofs.Promises.{provisioner-step, received-at, local-calls}
 use Rattle.links.proofs.Local.{open-used, send-after}
@@ -68,61 +67,63 @@ other-id other id e q = absurd (false≢true (sym (ap not (eq-eqb other id q)) �
 
 module _ (σ : Station) (s id : ℕ) (has_id : (get_link s σ).link.id ≡ id) where
   -- another Link ID finds another link
-  elsewhere : (other : ℕ) → is_other other id ≡ true → find σ.links other ≢ At s
+  elsewhere : (other : ℕ) → is_other other id ≡ true → find σ.links other ≢ Some s
   elsewhere other e q = other-id other id e (found-id σ s other q ∙ has_id)
 
   module _ (f : List ℕ) (x : OneLink) where
     unmoved : Later x.link x.link
     unmoved = later_same x.link
 
-    own-as : (state : LinkState) (p : Parsed) → leaves_alone id p ≡ true → addressed provisioner σ.links p ≡ At s
+    own-as : (state : LinkState) (p : Result Frame FrameRefusal) → leaves_alone id p ≡ true → addressed provisioner σ.links p ≡ Some s
         → Later x.link (frame_step Provisioner x state f p).1.link
     unfolding frame_step acknowledgement_step
     own-as S.Free p e q = unmoved
-    own-as S.Opening (P.Segment g) e q = unmoved
-    own-as S.Opening (P.Acknowledgement i t) e q = unmoved
-    own-as S.Opening (P.Open i uuid) e q = unmoved
-    own-as S.Opening (P.Ack i) e q = record { opened = λ _. refl; used = λ _. refl; id = refl; last = refl; half = refl }
-    own-as S.Opening (P.Close i reason) e q = absurd (elsewhere i e q)
-    own-as S.Opening (P.Refused r) e q = unmoved
-    own-as S.Open (P.Segment g) e q = absurd (elsewhere g.id e q)
-    own-as S.Open (P.Acknowledgement i t) e q =
+    own-as S.Opening (Ok (P.Segment g)) e q = unmoved
+    own-as S.Opening (Ok (P.Acknowledgement i t)) e q = unmoved
+    own-as S.Opening (Ok (P.Open i uuid)) e q = unmoved
+    own-as S.Opening (Ok (P.Ack i)) e q = record { opened = λ _. refl; used = λ _. refl; id = refl; last = refl; half = refl }
+    own-as S.Opening (Ok (P.Close i reason)) e q = absurd (elsewhere i e q)
+    own-as S.Opening (Err r) e q = unmoved
+    own-as S.Open (Ok (P.Segment g)) e q = absurd (elsewhere g.id e q)
+    own-as S.Open (Ok (P.Acknowledgement i t)) e q =
         cases (sends Provisioner t)
         (λ u. rw u (cases (x.link.outstanding && eqb x.link.next.0 t.0)
         (λ v. rw v (record { opened = λ k. k; used = λ k. k; id = refl; last = refl; half = refl })) (λ v. rw v unmoved)))
         (λ u. rw u unmoved)
-    own-as S.Open (P.Open i uuid) e q = unmoved
-    own-as S.Open (P.Ack i) e q = unmoved
-    own-as S.Open (P.Close i reason) e q = absurd (elsewhere i e q)
-    own-as S.Open (P.Refused r) e q = unmoved
+    own-as S.Open (Ok (P.Open i uuid)) e q = unmoved
+    own-as S.Open (Ok (P.Ack i)) e q = unmoved
+    own-as S.Open (Ok (P.Close i reason)) e q = absurd (elsewhere i e q)
+    own-as S.Open (Err r) e q = unmoved
 
 -- ---- a frame that is sent
 
-module _ (tray : Tray) (s id : ℕ) (found-other : (other : ℕ) → is_other other id ≡ true → find tray.links other ≢ At s) where
+module _ (tray : Tray) (s id : ℕ) (found-other : (other : ℕ) → is_other other id ≡ true → find tray.links other ≢ Some s) where
   -- a segment asks for no Close
-  segment-asks : (found : Found) (t : TransactionNumber) (h : SegmentHeader) (w : Socket) → segment_sent tray.links found t h ≢ A.Close w
-  segment-asks (At j) t (Start n c) w q =
+  segment-asks : (found : Option ℕ) (t : TransactionNumber) (h : SegmentHeader) (w : Socket) → segment_sent tray.links found t h ≢ Ok (Some (A.Close w))
+  segment-asks (Some j) t (Start n c) w q =
       cases (sends_next (get_or tray.links j no_link) t)
       (λ e. let r = rw e at q in let z : ◌≡◌ {A = ℕ} 0 1 = cc in absurd (omega arith))
       (λ e. let r = rw e at q in let z : ◌≡◌ {A = ℕ} 0 1 = cc in absurd (omega arith))
-  segment-asks Nowhere t (Start n c) w q = let z : ◌≡◌ {A = ℕ} 0 1 = cc in absurd (omega arith)
+  segment-asks None t (Start n c) w q = let z : ◌≡◌ {A = ℕ} 0 1 = cc in absurd (omega arith)
   segment-asks found t (Continuation k) w q = let z : ◌≡◌ {A = ℕ} 0 1 = cc in absurd (omega arith)
 
-  close-asks : (found : Found) (w : Socket) → found ≢ At s → closed_at found ≡ A.Close w → s ≢ socket_place w
-  close-asks (At j) w h q e =
+  close-asks : (found : Option ℕ) (w : Socket) → found ≢ Some s → closed_at found ≡ Some (A.Close w) → s ≢ socket_place w
+  close-asks (Some j) w h q e =
       let z : socket_at j ≡ w = cc in
       let i : j ≡ s = omega (arith, ap (λ (k : Socket). k.0) z) in
-      h (ap At i)
-  close-asks Nowhere w h q e = let z : ◌≡◌ {A = ℕ} 0 1 = cc in absurd (omega arith)
+      h (ap Some i)
+  close-asks None w h q e = let z : ◌≡◌ {A = ℕ} 0 1 = cc in absurd (omega arith)
 
   -- a Close that is sent is that of another socket
-  asks-other : (p : Parsed) → leaves_open id p ≡ true → (w : Socket) → sent_of tray.links (addressed provisioner tray.links p) p ≡ A.Close w → s ≢ socket_place w
-  asks-other (P.Segment g) e w q = absurd (segment-asks (find tray.links g.id) g.number g.header w q)
-  asks-other (P.Acknowledgement i t) e w q = let z : ◌≡◌ {A = ℕ} 0 1 = cc in absurd (omega arith)
-  asks-other (P.Open i uuid) e w q = let z : ◌≡◌ {A = ℕ} 0 1 = cc in absurd (omega arith)
-  asks-other (P.Ack i) e w q = let z : ◌≡◌ {A = ℕ} 0 1 = cc in absurd (omega arith)
-  asks-other (P.Close i reason) e w q = close-asks (find tray.links i) w (found-other i e) q
-  asks-other (P.Refused r) e w q = let z : ◌≡◌ {A = ℕ} 0 1 = cc in absurd (omega arith)
+  asks-other : (p : Result Frame FrameRefusal) → leaves_open id p ≡ true → (w : Socket) → sent_of tray.links (addressed provisioner tray.links p) p ≡ Ok (Some (A.Close w)) → s ≢ socket_place w
+  asks-other (Ok (P.Segment g)) e w q = absurd (segment-asks (find tray.links g.id) g.number g.header w q)
+  asks-other (Ok (P.Acknowledgement i t)) e w q = let z : ◌≡◌ {A = ℕ} 0 1 = cc in absurd (omega arith)
+  asks-other (Ok (P.Open i uuid)) e w q = let z : ◌≡◌ {A = ℕ} 0 1 = cc in absurd (omega arith)
+  asks-other (Ok (P.Ack i)) e w q = let z : ◌≡◌ {A = ℕ} 0 1 = cc in absurd (omega arith)
+  asks-other (Ok (P.Close i reason)) e w q =
+      let r : closed_at (find tray.links i) ≡ Some (A.Close w) = cc in
+      close-asks (find tray.links i) w (found-other i e) r
+  asks-other (Err r) e w q = let z : ◌≡◌ {A = ℕ} 0 1 = cc in absurd (omega arith)
 
 -- ---- a line that leaves it
 
@@ -149,7 +150,7 @@ module _ (m : Import) (s : Socket) (id : ℕ) (some : 1 ≤ s.0) (used : in_use 
   heard-link f o alone =
       let x = get_link (socket_place s) σ in
       received-at provisioner σ f o (socket_place s) (λ y. Later x.link y.link) (later_same x.link)
-      (λ _ _ _ at _. subst (λ (r : Answer × OneLink). Later x.link r.1.link) (sym (provisioner-step x f (parsed f)))
+      (λ _ _ _ at _. subst (λ (r : Result Answer Refusal × OneLink). Later x.link r.1.link) (sym (provisioner-step x f (parsed f)))
       (own-as σ (socket_place s) id own f x x.link.state (parsed f) alone at))
 
   -- its socket is in use, so that an opening of it changes nothing
@@ -199,8 +200,8 @@ pub record Waits (m : Import) (s : Socket) (id : ℕ) : Type 0 where
   pub numbered : is_socket s 8 ≡ true
   pub used : in_use (link_at m.log.tray.links s).state ≡ true
   pub has_id : (link_at m.log.tray.links s).id ≡ id
-  pub last : (link_at m.log.tray.links s).last ≡ L.Nothing
-  pub half : (link_at m.log.tray.links s).half ≡ H.Nothing
+  pub last : (link_at m.log.tray.links s).last ≡ None
+  pub half : (link_at m.log.tray.links s).half ≡ None
   pub no_record : is_recorded (stock_in m s) ≡ false
 
 module _ (s : Socket) (id : ℕ) where

@@ -1,10 +1,10 @@
 -- A tray's log, line by line: the tray and the lent area after its lines, and the rows that they write. Quotations are of `docs/IMPORT.md`.
-use Rattle.std.specs.Prelude.{ℕ, zero, suc, ◌+◌, cond, List, [], ◌∷◌, ◌++◌, ltb, replicate}
+use Rattle.std.specs.Prelude.{ℕ, zero, suc, ◌+◌, cond, List, [], ◌∷◌, ◌++◌, ltb, replicate, Option}
 use Rattle.stock_table.specs.Rows.{end_row}
 use Rattle.stock_table.specs.Columns.{row_line}
+use Rattle.stock_table.specs.declared.Row.{Row}
 use Rattle.import_tray.specs.Trays.{new_tray, report_text, last_report}
 use Rattle.import_tray.specs.declared.Tray.{Tray}
-use Rattle.import_tray.specs.declared.Report.{Report}
 use Rattle.import_tray.specs.declared.Step.{Step}
 use Rattle.import_lines.specs.Lines.{line_step, line_area}
 use Rattle.import_log.specs.declared.Log.{Log}
@@ -38,7 +38,7 @@ pub record Import : Type 0 where
   pub area : List ℕ
 
 -- what a line writes
-abbrev pub report_in : Import → List ℕ → Report
+abbrev pub report_in : Import → List ℕ → Option Row
 report_in m line = (taken m.log m.area line).report
 
 abbrev pub after : Import → List ℕ → Import

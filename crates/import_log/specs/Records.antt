@@ -1,7 +1,7 @@
 -- EVERY RECORD IS TRUE, for any log: whatever the lines are, a row of a Capabilities message is written by the line of that message's one frame, with the
 -- Link ID of the latest opening of its socket, and each field is that of the frame's own octets. The proofs are `proofs/Records.antt`. Quotations are of
 -- `docs/IMPORT.md`.
-use Rattle.std.specs.Prelude.{ℕ, ◌+◌, ◌<◌, Bool, true, false, ◌≢◌, ◌↔◌, ◌≡◌, length, get_or}
+use Rattle.std.specs.Prelude.{ℕ, ◌+◌, ◌<◌, Bool, true, false, ◌≢◌, ◌↔◌, ◌≡◌, length, get_or, Some, Ok, None}
 use mathlib.Core.List.{List, [], ◌∷◌, ◌++◌, Memᴰ}
 use Rattle.octets.specs.Numbers.{big16}
 use Rattle.octets.specs.Told.{answered}
@@ -20,11 +20,8 @@ use Rattle.line_fields.specs.declared.Word.TheVariants as W
 use Rattle.line_fields.specs.declared.Field.TheVariants as F
 use Rattle.stock_table.specs.Rows.{origin_of, record_row, message_row}
 use Rattle.stock_table.specs.declared.Origin.{Origin}
-use Rattle.stock_table.specs.declared.Stated.TheVariants as T
 use Rattle.stock_table.specs.declared.Row.{Row}
-use Rattle.import_tray.specs.declared.Report.TheVariants as R
 use Rattle.import_messages.specs.Messages.{reading_of}
-use Rattle.import_messages.specs.declared.Reading.TheVariants as G
 use Rattle.log_lines.specs.Lines.{is_frame, is_opening, socket_in, id_in}
 use Rattle.import_log.specs.Logs.{Import, report_in, after_all, at_first, number_in}
 
@@ -99,14 +96,14 @@ pub record IsTrue (before : List (List ℕ)) (line : List ℕ) (row : Row) : Typ
   pub frame : octets_of line ≡ segment_frame id number octets 0
   pub alone : message_frames id number octets ≡ octets_of line ∷ []
   pub opened : LatestOpening before socket id
-  pub accepted : message_read octets ≡ M.Capabilities (fields_of octets)
+  pub accepted : message_read octets ≡ Ok (M.Capabilities (fields_of octets))
   pub long : length octets ≡ 12
   pub places : (i : ℕ) → i < 12 → get_or octets i 0 ≡ get_or (octets_of line) (9 + i) 0
   pub shown : row ≡ record_row row.what (number_in (after_all at_first before)) (message_origin socket id number) (fields_of octets)
 
 abbrev pub EveryRecord : Type 0
 EveryRecord =
-    (before : List (List ℕ)) (line : List ℕ) (row : Row) → report_in (after_all at_first before) line ≡ R.Row row → is_record_word row.what ≡ true
+    (before : List (List ℕ)) (line : List ℕ) (row : Row) → report_in (after_all at_first before) line ≡ Some row → is_record_word row.what ≡ true
     → IsTrue before line row
 
 -- ---- one record for an opening
@@ -114,7 +111,7 @@ EveryRecord =
 -- a line writes the record of socket s
 pub record RecordsAt (m : Import) (line : List ℕ) (s : Socket) : Type 0 where
   pub row : Row
-  pub writes : report_in m line ≡ R.Row row
+  pub writes : report_in m line ≡ Some row
   pub is_record : row.what ≡ W.Record
   pub socket : row.origin.socket ≡ F.Decimal s.0
 
@@ -142,7 +139,7 @@ pub record RecordedSince {lines : List (List ℕ)} {s : Socket} {id : ℕ} (o : 
   pub rest : List (List ℕ)
   pub split : o.since ≡ between ++ (line ∷ rest)
   pub records : RecordsAt (after_all at_first (o.before ++ (o.opening ∷ between))) line s
-  pub stated : records.row.stated ≡ T.Fields c
+  pub stated : records.row.stated ≡ Some c
 
 -- such a row comes behind the record since the latest opening of its socket: `repeated` if its fields are those of the record, `conflict` if they are not
 pub record FurtherIsTrue (before : List (List ℕ)) (line : List ℕ) (row : Row) : Type 0 where
@@ -154,7 +151,7 @@ pub record FurtherIsTrue (before : List (List ℕ)) (line : List ℕ) (row : Row
 
 abbrev pub EveryFurther : Type 0
 EveryFurther =
-    (before : List (List ℕ)) (line : List ℕ) (row : Row) → report_in (after_all at_first before) line ≡ R.Row row → is_record_word row.what ≡ true
+    (before : List (List ℕ)) (line : List ℕ) (row : Row) → report_in (after_all at_first before) line ≡ Some row → is_record_word row.what ≡ true
     → row.what ≢ W.Record → FurtherIsTrue before line row
 
 -- ---- the rows of other messages
@@ -177,10 +174,10 @@ pub record MessageIsTrue (before : List (List ℕ)) (line : List ℕ) (row : Row
   pub opened : LatestOpening before socket id
   pub cut : (f : List ℕ) → Memᴰ f (message_frames id number octets) → HeardIn (opened.since ++ (line ∷ [])) f
   pub last : Memᴰ (octets_of line) (message_frames id number octets)
-  pub accepted : reading_of (message_read octets) ≡ G.Other
+  pub accepted : reading_of (message_read octets) ≡ Ok None
   pub shown : row ≡ message_row (number_in (after_all at_first before)) (message_origin socket id number) (message_read octets)
 
 abbrev pub EveryMessage : Type 0
 EveryMessage =
-    (before : List (List ℕ)) (line : List ℕ) (row : Row) → report_in (after_all at_first before) line ≡ R.Row row → row.what ≡ W.Message
+    (before : List (List ℕ)) (line : List ℕ) (row : Row) → report_in (after_all at_first before) line ≡ Some row → row.what ≡ W.Message
     → MessageIsTrue before line row

@@ -1,12 +1,11 @@
 -- WHAT THE BUYER READS: under each name of the header, in the row that a line writes of a Capabilities message, stands the text of that message's own
 -- octets, which are octets of the line. The proof is `proofs/Shown.antt`.
-use Rattle.std.specs.Prelude.{ℕ, true, List, ◌≡◌, get_or}
+use Rattle.std.specs.Prelude.{ℕ, true, List, ◌≡◌, get_or, Some}
 use Rattle.hexadecimal.specs.Hex.{octets_of}
 use Rattle.line_fields.specs.Lines.{decimal_of}
 use Rattle.stock_table.specs.Columns.{row_line}
 use Rattle.stock_table.specs.Promises.{under, RecordColumns}
 use Rattle.stock_table.specs.declared.Row.{Row}
-use Rattle.import_tray.specs.declared.Report.TheVariants as R
 use Rattle.import_log.specs.Logs.{report_in, after_all, at_first, number_in}
 use Rattle.import_log.specs.Records.{message_origin, is_record_word, IsTrue}
 
@@ -18,5 +17,5 @@ pub record IsShown (before : List (List ℕ)) (line : List ℕ) (row : Row) : Ty
 
 abbrev pub EveryColumn : Type 0
 EveryColumn =
-    (before : List (List ℕ)) (line : List ℕ) (row : Row) → report_in (after_all at_first before) line ≡ R.Row row → is_record_word row.what ≡ true
+    (before : List (List ℕ)) (line : List ℕ) (row : Row) → report_in (after_all at_first before) line ≡ Some row → is_record_word row.what ≡ true
     → IsShown before line row

@@ -1,14 +1,13 @@
 -- THE SOCKETS AFTER THE LAST LINE, for any log: `unopened`, `missing` and no row each say what the lines did to that socket. The proofs are
 -- `proofs/Sockets.antt`. Quotations are of `docs/IMPORT.md`.
-use Rattle.std.specs.Prelude.{ℕ, true, List, ◌∷◌, ◌++◌, ◌↔◌, ◌≡◌}
+use Rattle.std.specs.Prelude.{ℕ, true, List, ◌∷◌, ◌++◌, ◌↔◌, ◌≡◌, None, Option, Some}
 use Rattle.transactions.specs.Numbers.{is_socket}
 use Rattle.transactions.specs.declared.Socket.{Socket}
 use Rattle.provisioning.specs.declared.Capabilities.{Capabilities}
 use Rattle.line_fields.specs.declared.Word.TheVariants as W
 use Rattle.stock_table.specs.Rows.{socket_row}
+use Rattle.stock_table.specs.declared.Row.{Row}
 use Rattle.import_tray.specs.Trays.{last_report}
-use Rattle.import_tray.specs.declared.Report.{Report}
-use Rattle.import_tray.specs.declared.Report.TheVariants as R
 use Rattle.import_log.specs.Logs.{after_all, at_first}
 use Rattle.import_log.specs.Records.{Opens, LatestOpening, RecordedSince}
 
@@ -32,13 +31,13 @@ pub record HasRecord (lines : List (List ℕ)) (s : Socket) : Type 0 where
   pub recorded : RecordedSince opened fields
 
 -- what is written of socket s after the last of lines from the start
-abbrev pub report_of : List (List ℕ) → Socket → Report
+abbrev pub report_of : List (List ℕ) → Socket → Option Row
 report_of lines s = last_report (after_all at_first lines).log.tray s
 
 pub record SocketTold (lines : List (List ℕ)) (s : Socket) : Type 0 where
-  pub unopened : (report_of lines s ≡ R.Row (socket_row W.Unopened s)) ↔ NeverOpened lines s
-  pub missing : (report_of lines s ≡ R.Row (socket_row W.Missing s)) ↔ NoRecordSince lines s
-  pub nothing : (report_of lines s ≡ R.Nothing) ↔ HasRecord lines s
+  pub unopened : (report_of lines s ≡ Some (socket_row W.Unopened s)) ↔ NeverOpened lines s
+  pub missing : (report_of lines s ≡ Some (socket_row W.Missing s)) ↔ NoRecordSince lines s
+  pub nothing : (report_of lines s ≡ None) ↔ HasRecord lines s
 
 abbrev pub SocketsTold : Type 0
 SocketsTold = (lines : List (List ℕ)) (s : Socket) → is_socket s 8 ≡ true → SocketTold lines s

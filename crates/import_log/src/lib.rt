@@ -4,7 +4,8 @@
 ghost use Rattle.std.specs.Prelude.{◌≡◌};
 ghost use Rattle.import_log.specs.Logs.{next_number, new_log, taken, area_after};
 
-use import_tray::{Report, Tray};
+use import_tray::Tray;
+use stock_table::Row;
 
 #[derive(Clone, Copy)]
 pub struct Log {
@@ -13,11 +14,11 @@ pub struct Log {
     pub lines: u64,
 }
 
-// The log after a line, and what the line writes.
+// The log after a line, and the row that the line writes, if any.
 #[derive(Clone, Copy)]
 pub struct Taken {
     pub log: Log,
-    pub report: Report,
+    pub report: Option<Row>,
 }
 
 // No line yet.
@@ -41,16 +42,13 @@ pub fn take_line(log: Log, area: &mut [u8], line: &[u8]) -> Taken
     ensures { (result ≡ taken log area.old line.now)
         × (area.new ≡ area_after log area.old line.now) }
 {
-    let tray = log.tray;
     let number = next_number(log.lines);
-    let step = import_lines::import_line(tray, area, number, line);
-    let after = step.tray;
-    let report = step.report;
+    let step = import_lines::import_line(log.tray, area, number, line);
     Taken {
         log: Log {
-            tray: after,
+            tray: step.tray,
             lines: number,
         },
-        report: report,
+        report: step.report,
     }
 }

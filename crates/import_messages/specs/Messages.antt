@@ -1,7 +1,8 @@
 -- What becomes of a message that was delivered. Quotations are of `docs/IMPORT.md`.
-use Rattle.std.specs.Prelude.{ℕ, Bool, ◌&&◌, cond, eqb}
+use Rattle.std.specs.Prelude.{ℕ, Bool, ◌&&◌, cond, eqb, Option, None, Some, Result, Ok, Err}
 use Rattle.provisioning.specs.Message.{refusal_number}
 use Rattle.provisioning.specs.declared.Capabilities.{Capabilities}
+use Rattle.provisioning.specs.declared.MessageRefusal.{MessageRefusal}
 use Rattle.provisioning.specs.declared.Message.{Message}
 use Rattle.provisioning.specs.declared.Message.TheVariants as M
 use Rattle.line_fields.specs.declared.Word.{Word}
@@ -13,22 +14,24 @@ use Rattle.import_tray.specs.declared.Stock.{Stock}
 use Rattle.import_tray.specs.declared.Stock.TheVariants as S
 use Rattle.import_tray.specs.declared.Tray.{Tray}
 use Rattle.import_tray.specs.declared.Step.{Step}
-use Rattle.import_messages.specs.declared.Reading.{Reading}
-use Rattle.import_messages.specs.declared.Reading.TheVariants as R
+
+-- the fields of a Capabilities message; none of a message of another kind
+abbrev pub record_of : Message → Option Capabilities
+record_of (M.Invite attention) = None
+record_of (M.Capabilities c) = Some c
+record_of (M.Start c) = None
+record_of (M.PublicKey x y) = None
+record_of M.InputComplete = None
+record_of (M.Confirmation c) = None
+record_of (M.Random r) = None
+record_of (M.Data d mic) = None
+record_of M.Complete = None
+record_of (M.Failed code) = None
 
 -- what the reader's answer comes to
-abbrev pub reading_of : Message → Reading
-reading_of (M.Invite attention) = R.Other
-reading_of (M.Capabilities c) = R.Record c
-reading_of (M.Start c) = R.Other
-reading_of (M.PublicKey x y) = R.Other
-reading_of M.InputComplete = R.Other
-reading_of (M.Confirmation c) = R.Other
-reading_of (M.Random r) = R.Other
-reading_of (M.Data d mic) = R.Other
-reading_of M.Complete = R.Other
-reading_of (M.Failed code) = R.Other
-reading_of (M.Refused r) = R.Refused (refusal_number r)
+abbrev pub reading_of : Result Message MessageRefusal → Result (Option Capabilities) MessageRefusal
+reading_of (Ok m) = Ok (record_of m)
+reading_of (Err r) = Err r
 
 -- "the same eight fields"
 unfoldable pub same_fields : Capabilities → Capabilities → Bool
@@ -56,11 +59,11 @@ abbrev pub capabilities_step : Tray → ℕ → ℕ → Origin → Capabilities 
 capabilities_step tray s line origin c = capabilities_by (stock_at tray s) tray s line origin c
 
 -- by the reader's answer: "a delivered message of another kind that the reader accepts", or a refusal "of a delivered message by the reader"
-abbrev pub message_by : Reading → Tray → ℕ → ℕ → Origin → Message → Step
-message_by (R.Record c) tray s line origin m = capabilities_step tray s line origin c
-message_by (R.Refused n) tray s line origin m = row_after tray (refused_row line origin n)
-message_by R.Other tray s line origin m = row_after tray (message_row line origin m)
+abbrev pub message_by : Result (Option Capabilities) MessageRefusal → Tray → ℕ → ℕ → Origin → Result Message MessageRefusal → Step
+message_by (Ok (Some c)) tray s line origin m = capabilities_step tray s line origin c
+message_by (Ok None) tray s line origin m = row_after tray (message_row line origin m)
+message_by (Err r) tray s line origin m = row_after tray (refused_row line origin (refusal_number r))
 
 -- A DELIVERED MESSAGE, read, at place s by the line of that number
-abbrev pub message_step : Tray → ℕ → ℕ → Origin → Message → Step
+abbrev pub message_step : Tray → ℕ → ℕ → Origin → Result Message MessageRefusal → Step
 message_step tray s line origin m = message_by (reading_of m) tray s line origin m

@@ -1,9 +1,8 @@
 // The tray of the import step: its link records, and what the table has of each socket.
 #![tactic(auto)]
 
-ghost use Rattle.std.specs.Prelude.{◌≡◌, get_or, set};
-ghost use Rattle.import_tray.specs.declared.Stock.TheVariants.{Unopened};
-ghost use Rattle.import_tray.specs.Trays.{stock_of, new_tray, stock_at, with_links, with_stock, row_after, last_report};
+ghost use Rattle.std.specs.Prelude.{◌≡◌};
+ghost use Rattle.import_tray.specs.Trays.{new_tray, stock_at, with_links, with_stock, row_after, last_report};
 ghost use Rattle.stock_table.specs.Rows.{refused_row};
 
 use line_fields::Word;
@@ -20,118 +19,72 @@ pub enum Stock {
     Recorded(Capabilities),
 }
 
-// That of one socket: a tray has an array of them.
-#[derive(Clone, Copy)]
-pub struct SocketStock {
-    pub stock: Stock,
-}
-
-// The link records of a tray, and what the table has of each socket.
+// The link records of a tray, and what the table has of each socket. Two arrays: the station's calls take the eight records by themselves (document 01, "Each
+// place and its form").
 #[derive(Clone, Copy)]
 pub struct Tray {
     pub links: [Link; 8],
-    pub stock: [SocketStock; 8],
+    pub stock: [Stock; 8],
 }
 
-// What a line writes.
-#[derive(Clone, Copy)]
-pub enum Report {
-    Nothing,
-    Row(Row),
-}
-
-// The tray after a line, and what the line writes.
+// The tray after a line, and the row that the line writes, if any.
 #[derive(Clone, Copy)]
 pub struct Step {
     pub tray: Tray,
-    pub report: Report,
+    pub report: Option<Row>,
 }
 
 // The tray at the start: eight free sockets, never opened.
 pub fn new_tray() -> Tray
     ensures { result ≡ new_tray }
 {
-    let unopened = SocketStock {
-        stock: Stock::Unopened,
-    };
     Tray {
         links: link_records::blank_links(),
-        stock: [unopened; 8],
+        stock: [Stock::Unopened; 8],
     }
 }
 
-// The one at a place; unopened if there is no such place.
-fn one_of(all: [SocketStock; 8], place: usize) -> SocketStock
-    ensures { result ≡ get_or all place (stock_of Unopened) }
-{
-    if place < 8 {
-        return all[place];
-    }
-    SocketStock {
-        stock: Stock::Unopened,
-    }
-}
-
-// What the table has of the socket at a place.
+// What the table has of the socket at a place; unopened if there is no such place.
 pub fn stock_at(tray: Tray, place: usize) -> Stock
     ensures { result ≡ stock_at tray place }
 {
-    let all = tray.stock;
-    let one = one_of(all, place);
-    one.stock
+    tray.stock.get(place).copied().unwrap_or(Stock::Unopened)
 }
 
 // The tray with other link records.
 pub fn with_links(tray: Tray, links: [Link; 8]) -> Tray
     ensures { result ≡ with_links tray links }
 {
-    let stock = tray.stock;
-    Tray {
-        links: links,
-        stock: stock,
-    }
-}
-
-fn with_one(all: [SocketStock; 8], place: usize, stock: Stock) -> [SocketStock; 8]
-    ensures { result ≡ set all place (stock_of stock) }
-{
-    let mut after = all;
-    if place < 8 {
-        after[place] = SocketStock { stock: stock };
-    }
-    after
+    Tray { links, ..tray }
 }
 
 // The tray with other stock of the socket at a place.
-pub fn with_stock(tray: Tray, place: usize, stock: Stock) -> Tray
+pub fn with_stock(mut tray: Tray, place: usize, stock: Stock) -> Tray
     ensures { result ≡ with_stock tray place stock }
 {
-    let links = tray.links;
-    let all = tray.stock;
-    Tray {
-        links: links,
-        stock: with_one(all, place, stock),
+    if place < 8 {
+        tray.stock[place] = stock;
     }
+    tray
 }
 
-// A refusal, by document 01's number, is told; the tray stays.
+// A refusal, by document 01's number, is told; the tray stays. Stays a number: refusals of the station and of the reader of messages meet here.
 pub fn refuse(tray: Tray, line: u64, origin: Origin, refusal: u8) -> Step
     ensures { result ≡ row_after tray (refused_row line origin refusal) }
 {
     Step {
-        tray: tray,
-        report: Report::Row(stock_table::refused_row(line, origin, refusal)),
+        tray,
+        report: Some(stock_table::refused_row(line, origin, refusal)),
     }
 }
 
 // What is said of a socket after the last line: that it was never opened, or that its record is missing.
-pub fn last_report(tray: Tray, socket: Socket) -> Report
+pub fn last_report(tray: Tray, socket: Socket) -> Option<Row>
     ensures { result ≡ last_report tray socket }
 {
-    let stock = stock_at(tray, socket.place());
-    match stock {
-        Stock::Unopened => Report::Row(stock_table::socket_row(Word::Unopened, socket)),
-        Stock::Missing => Report::Row(stock_table::socket_row(Word::Missing, socket)),
-        Stock::Recorded(_) => Report::Nothing,
+    match stock_at(tray, socket.place()) {
+        Stock::Unopened => Some(stock_table::socket_row(Word::Unopened, socket)),
+        Stock::Missing => Some(stock_table::socket_row(Word::Missing, socket)),
+        Stock::Recorded(_) => None,
     }
 }

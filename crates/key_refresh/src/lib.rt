@@ -9,17 +9,14 @@ use beacon::{BeaconAnswer, BeaconRefusal, Heard, SecurityState};
 fn at_phase(state: SecurityState, phase: u8, revoke: bool) -> Heard
     ensures { result ≡ at_phase state phase revoke }
 {
-    let iv = state.iv;
     Heard {
-        state: SecurityState {
-            phase: phase,
-            iv: iv,
-        },
-        answer: BeaconAnswer::Moved { revoke: revoke },
+        state: SecurityState { phase, ..state },
+        answer: Ok(BeaconAnswer::Moved { revoke }),
     }
 }
 
 // Starts a key refresh here.
+#[tactic(auto, using(octets::proofs::Tests::tests), unfolding(beacon::specs::Beacons::started))]
 pub fn start_key_refresh(state: SecurityState) -> Heard
     ensures { result ≡ started state }
 {
@@ -32,7 +29,8 @@ pub fn start_key_refresh(state: SecurityState) -> Heard
     state.refuse(BeaconRefusal::NotAllowed)
 }
 
-// Sets the key refresh phase to 2 or 3 here.
+// Sets the key refresh phase to 2 or 3 here. The target stays a number: 56 tells those that are neither (set-table).
+#[tactic(auto, using(octets::proofs::Tests::tests), unfolding(beacon::specs::Beacons::set))]
 pub fn set_phase(state: SecurityState, target: u8) -> Heard
     ensures { result ≡ set state target }
 {

@@ -7,32 +7,56 @@ use mathlib.Core.Bool.{cond}
 use mathlib.Core.List.{List, [], ◌∷◌, ◌++◌, map, append_assoc}
 use mathlib.Core.Path.{◌≡◌, refl, sym, ap, ◌∙◌}
 use lib.Dec.{leb, eqb}
-use lib.ListN.{length, take, drop, get_or, replicate, length-append, length-drop, drop_of_length-le}
-use lib.Seq.{drop-cons, length-take-le}
+use lib.ListN.{length, take, drop, get_or, replicate, length-append, drop_of_length-le}
+use lib.Seq.{drop-cons, length-take-le, take-length}
+use borrow.Rule.Slice.PartMut.{put_mid}
+use Rattle.std.proofs.lemmas.Slice.{put_mid-paste}
 use borrow.Author.Tests.{le-leb, lt-ltb, ne_eqb, leb-true, leb-false}
-use Rattle.octets.specs.Parts.{part, write, copied}
-use Rattle.octets.proofs.Parts.{copied-part, write-front, write-length, write-next, write-nothing}
+use Rattle.octets.specs.Parts.{write}
+use Rattle.octets.proofs.Parts.{write-front, write-length, write-next, write-nothing}
 use Rattle.octets.proofs.Tests.{cases}
 use Rattle.hexadecimal.specs.Hex.{text_of, encoded_output}
 use Rattle.hexadecimal.proofs.Laws.{length-text}
 use Rattle.io.specs.Digits.{hex_digit_ascii, last_digits, IsDigitCount}
-use Rattle.line_fields.specs.Lines.{digits_up_to, decimal_of, hexadecimal_of, field_text, end_before, line_of, Holds}
+use Rattle.line_fields.specs.Lines.{digits_up_to, decimal_of, hexadecimal_of, word_text, field_text, end_before, line_of, Holds}
 use Rattle.line_fields.specs.declared.Characters.{Characters}
 use Rattle.line_fields.specs.declared.Field.{Field}
+use Rattle.line_fields.specs.declared.Word.{Word}
+use Rattle.line_fields.specs.declared.Word.TheVariants as W
 
 -- a text written at the start of a room
 pub written-front : (room d : List ℕ) (n : ℕ) → n ≡ length d → length d ≤ length room → take n (write room 0 d) ≡ d
 written-front room d n e h = rw e (rw zero-add at (write-front room 0 d (omega arith)))
 
--- a part copied to the start of a room
-pub copied-front : (room x : List ℕ) (from n : ℕ) → n ≤ length room → from + n ≤ length x → take n (copied room 0 x from n) ≡ part x from n
-copied-front room x from n h k =
-    let long : length (part x from n) ≡ n = length-take-le n (drop from x) (omega (arith, length-drop from x)) in
-    rw (copied-part room 0 x from n (omega arith) k) (written-front room (part x from n) n (sym long) (omega arith))
+-- a slice's range, written
+pub range-write : (line d : List ℕ) (at k : ℕ) → k ≡ length d → put_mid at k line d ≡ write line at d
+unfolding write
+range-write line d at k e = put_mid-paste at k line d d (length d) refl (sym e) refl ∙ rw (take-length d)
 
 -- so many characters as the text has
 pub holds-long : (c : Characters) (text : List ℕ) → length c.text ≡ 20 → Holds c text → c.length ≡ length text
 holds-long c text room h = sym (length-take-le c.length c.text (omega (arith, h.1))) ∙ ap length h.0
+
+pub words-short : (word : Word) → length (word_text word) ≤ 20
+unfolding word_text
+words-short W.Record = omega arith
+words-short W.Repeated = omega arith
+words-short W.Conflict = omega arith
+words-short W.Message = omega arith
+words-short W.Refused = omega arith
+words-short W.Missing = omega arith
+words-short W.Unopened = omega arith
+words-short W.End = omega arith
+words-short W.Invite = omega arith
+words-short W.Capabilities = omega arith
+words-short W.Start = omega arith
+words-short W.PublicKey = omega arith
+words-short W.InputComplete = omega arith
+words-short W.Confirmation = omega arith
+words-short W.Random = omega arith
+words-short W.Data = omega arith
+words-short W.Complete = omega arith
+words-short W.Failed = omega arith
 
 -- `0x`, and the digits of octets behind it
 pub hexadecimal-put : (octets line : List ℕ) (at : ℕ) → at + 2 + 2 * length octets ≤ length line

@@ -1,12 +1,10 @@
 -- A line of text: fields with a comma between them and a newline at the end. Characters are ASCII octets.
 use Prim.Native.Char.{code}
-use Rattle.std.specs.Prelude.{ℕ, zero, suc, ◌+◌, ◌*◌, ◌/◌, ◌%◌, ◌≤◌, cond, List, [], ◌∷◌, ◌++◌, ◌≡◌, eqb, length, take}
+use Rattle.std.specs.Prelude.{ℕ, zero, suc, ◌+◌, ◌/◌, ◌%◌, ◌≤◌, cond, List, [], ◌∷◌, ◌++◌, ◌≡◌, eqb, length, take}
 use Prim.Native.String.{String, char_at, len}
 use Rattle.octets.specs.Numbers.{octets16, octets32}
-use Rattle.octets.specs.Parts.{part}
 use Rattle.hexadecimal.specs.Hex.{text_of}
 use Rattle.line_fields.specs.declared.Characters.{Characters}
-use Rattle.line_fields.specs.declared.WordRow.{WordRow}
 use Rattle.line_fields.specs.declared.Word.{Word}
 use Rattle.line_fields.specs.declared.Word.TheVariants as W
 use Rattle.line_fields.specs.declared.Field.{Field}
@@ -80,13 +78,6 @@ line_of [] = []
 line_of (t ∷ ts) = t ++ (end_before ts ∷ line_of ts)
 
 -- ---- a field in a line
-
--- the words, in rows of 14 characters
-abbrev pub words : List ℕ
-words = ascii "record        repeated      conflict      message       refused       missing       unopened      end           Invite        Capabilities  Start         Public Key    Input CompleteConfirmation  Random        Data          Complete      Failed        "
-
-abbrev pub StandsAt : WordRow → Word → Type 0
-StandsAt r word = (part words (14 * r.row) r.length ≡ word_text word) × (r.row ≤ 17) × (r.length ≤ 14)
 
 -- a text of at most 20 characters
 abbrev pub text_in : Characters → List ℕ

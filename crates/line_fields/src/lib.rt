@@ -5,9 +5,9 @@ ghost use Rattle.std.specs.Prelude.{true, cond, [], ◌∷◌, ◌++◌, map, �
 ghost use Rattle.octets.specs.Numbers.{octets32};
 ghost use Rattle.octets.specs.Parts.{part, write};
 ghost use Rattle.octets.specs.Writing.{written, output_after};
-ghost use Rattle.line_fields.specs.Lines.{decimal_of, hexadecimal_of, field_text, line_of, words, StandsAt, text_in, Holds, FieldAsks};
+ghost use Rattle.line_fields.specs.Lines.{decimal_of, hexadecimal_of, field_text, line_of, ascii, spelling, text_in, Holds, FieldAsks};
 
-use octets::Written;
+use octets::{Written, WrongArgument};
 
 // A word: what a row of the stock table says, and the names of the messages.
 #[derive(Clone, Copy)]
@@ -33,9 +33,11 @@ pub enum Word {
 }
 
 // A field of a line.
-#[derive(Clone, Copy)]
+// `Empty` stays a case: a column without a value is one more text of a column, and with `Option<Field>` every other field would stand in a `Some`.
+#[derive(Clone, Copy, Default)]
 pub enum Field {
     // No value.
+    #[default]
     Empty,
     Word(Word),
     Decimal(u64),
@@ -46,16 +48,11 @@ pub enum Field {
 }
 
 // The text of a field, at most 20 characters: so many at the start.
+// Stays an array with a length beside: `io::decimal` and `hexadecimal::encode` write octets into an array that they are lent, and an `ArrayString` takes only
+// text at its end. Each field would be made in an array all the same, tested as UTF-8, and copied over.
 #[derive(Clone, Copy)]
 pub struct Characters {
     pub text: [u8; 20],
-    pub length: usize,
-}
-
-// Where a word stands among the words, in rows of 14 characters.
-#[derive(Clone, Copy)]
-pub struct WordRow {
-    pub row: usize,
     pub length: usize,
 }
 
@@ -68,9 +65,9 @@ pub fn write_text(text: &[u8], output: &mut [u8]) -> Written
         × (output.new ≡ output_after true text.now output.old) }
 {
     if octet_parts::copy(output, 0, text, 0, text.len()) {
-        Written::Count(text.len())
+        Ok(text.len())
     } else {
-        Written::WrongArgument
+        Err(WrongArgument)
     }
 }
 
@@ -80,78 +77,61 @@ pub fn decimal_text(value: u64) -> Characters
 {
     let mut text = [0u8; 20];
     let length = io::decimal(value, &mut text);
-    Characters {
-        text: text,
-        length: length,
-    }
+    Characters { text, length }
 }
 
-// The last octets of a number, so many of four.
-fn hexadecimal_text(value: u32, count: usize) -> Characters
-    requires { count ≤ 4 }
-    ensures { Holds result (hexadecimal_of (drop (4 - count) (octets32 value))) }
+// Octets in hexadecimal.
+fn hexadecimal_text(octets: &[u8]) -> Characters
+    requires { length octets.now ≤ 4 }
+    ensures { Holds result (hexadecimal_of octets.now) }
 {
-    let octets = octets::four_octets(value);
-    let first = 4 - count;
     let mut text = [0u8; 20];
     text[0] = b'0';
     text[1] = b'x';
-    hexadecimal::encode(&octets[first..], &mut text, 2);
+    hexadecimal::encode(octets, &mut text, 2);
     Characters {
-        text: text,
-        length: 2 + 2 * count,
+        text,
+        length: 2 + 2 * octets.len(),
     }
 }
 
-fn word_row(word: Word) -> WordRow
-    ensures { StandsAt result word }
-{
-    match word {
-        Word::Record => WordRow { row: 0, length: 6 },
-        Word::Repeated => WordRow { row: 1, length: 8 },
-        Word::Conflict => WordRow { row: 2, length: 8 },
-        Word::Message => WordRow { row: 3, length: 7 },
-        Word::Refused => WordRow { row: 4, length: 7 },
-        Word::Missing => WordRow { row: 5, length: 7 },
-        Word::Unopened => WordRow { row: 6, length: 8 },
-        Word::End => WordRow { row: 7, length: 3 },
-        Word::Invite => WordRow { row: 8, length: 6 },
-        Word::Capabilities => WordRow { row: 9, length: 12 },
-        Word::Start => WordRow { row: 10, length: 5 },
-        Word::PublicKey => WordRow {
-            row: 11,
-            length: 10,
-        },
-        Word::InputComplete => WordRow {
-            row: 12,
-            length: 14,
-        },
-        Word::Confirmation => WordRow {
-            row: 13,
-            length: 12,
-        },
-        Word::Random => WordRow { row: 14, length: 6 },
-        Word::Data => WordRow { row: 15, length: 4 },
-        Word::Complete => WordRow { row: 16, length: 8 },
-        Word::Failed => WordRow { row: 17, length: 6 },
+impl Word {
+    // How it is written.
+    fn text(self) -> &'static [u8]
+        ensures { result.now ≡ ascii (spelling self) }
+    {
+        match self {
+            Word::Record => b"record",
+            Word::Repeated => b"repeated",
+            Word::Conflict => b"conflict",
+            Word::Message => b"message",
+            Word::Refused => b"refused",
+            Word::Missing => b"missing",
+            Word::Unopened => b"unopened",
+            Word::End => b"end",
+            Word::Invite => b"Invite",
+            Word::Capabilities => b"Capabilities",
+            Word::Start => b"Start",
+            Word::PublicKey => b"Public Key",
+            Word::InputComplete => b"Input Complete",
+            Word::Confirmation => b"Confirmation",
+            Word::Random => b"Random",
+            Word::Data => b"Data",
+            Word::Complete => b"Complete",
+            Word::Failed => b"Failed",
+        }
     }
 }
 
-fn word_text(place: WordRow) -> Characters
-    requires { (place.row ≤ 17) × (place.length ≤ 14) }
-    ensures { Holds result (part words (14 * place.row) place.length) }
+fn characters_of(text: &[u8]) -> Characters
+    requires { length text.now ≤ 20 }
+    ensures { Holds result text.now }
 {
-    let mut text = [0u8; 20];
-    octet_parts::copy(
-        &mut text,
-        0,
-        b"record        repeated      conflict      message       refused       missing       unopened      end           Invite        Capabilities  Start         Public Key    Input CompleteConfirmation  Random        Data          Complete      Failed        ",
-        14 * place.row,
-        place.length,
-    );
+    let mut characters = [0u8; 20];
+    characters[..text.len()].copy_from_slice(text);
     Characters {
-        text: text,
-        length: place.length,
+        text: characters,
+        length: text.len(),
     }
 }
 
@@ -163,11 +143,11 @@ fn field_text(field: Field) -> Characters
             text: [0u8; 20],
             length: 0,
         },
-        Field::Word(word) => word_text(word_row(word)),
+        Field::Word(word) => characters_of(word.text()),
         Field::Decimal(value) => decimal_text(value),
-        Field::Octet(value) => hexadecimal_text(value as u32, 1),
-        Field::Pair(value) => hexadecimal_text(value as u32, 2),
-        Field::Number(value) => hexadecimal_text(value, 4),
+        Field::Octet(value) => hexadecimal_text(&[value]),
+        Field::Pair(value) => hexadecimal_text(&value.to_be_bytes()),
+        Field::Number(value) => hexadecimal_text(&value.to_be_bytes()),
     }
 }
 
@@ -185,11 +165,10 @@ fn put_ended(line: &mut [u8], at: usize, characters: Characters, end: u8) -> usi
     ensures { (result ≡ at + characters.length + 1)
         × (line.new ≡ write line.old at (text_in characters ++ (end ∷ []))) }
 {
-    let text = characters.text;
-    let length = characters.length;
-    octet_parts::copy(line, at, &text, 0, length);
-    line[at + length] = end;
-    at + length + 1
+    let behind = at + characters.length;
+    line[at..behind].copy_from_slice(&characters.text[..characters.length]);
+    line[behind] = end;
+    behind + 1
 }
 
 // The line of fifteen fields.
@@ -200,11 +179,8 @@ pub fn write_fields(fields: [Field; 15], output: &mut [u8]) -> Written
 {
     let mut line = [0u8; MOST];
     let mut at = 0;
-    let mut i = 0;
-    while i < 15 {
-        let field = fields[i];
-        at = put_ended(&mut line, at, field_text(field), end_of(i));
-        i += 1;
+    for (i, field) in fields.iter().enumerate() {
+        at = put_ended(&mut line, at, field_text(*field), end_of(i));
     }
     write_text(&line[..at], output)
 }

@@ -2,44 +2,58 @@
 use Prim.Native.Nat.{ℕ, suc, ◌+◌, ◌-◌, ◌≤◌, ◌<◌}
 use native.Mathlib.Omega.{arith}
 use mathlib.Core.Bool.{Bool, true, false, false≢true, and-eq-true_iff}
-use mathlib.Core.List.{List, ◌++◌, append_assoc, append-nil}
+use mathlib.Core.List.{List, [], ◌∷◌, ◌++◌, append_assoc, append-nil}
 use mathlib.Core.Path.{◌≡◌, refl, sym, ap, ◌∙◌, subst}
 use lib.Dec.{leb, eqb}
-use lib.IntN.{ℤ, pos, negsuc}
-use lib.ListN.{length, take, drop, get_or, drop_of_length-le}
-use lib.Seq.{length-take-le, drop-cons, get_or-take}
-use borrow.Author.Tests.{le-leb, ne_eqb, eqb-true, leb-true, ltb-true}
-use mir.Syntax.{w64}
-use mir.Val.{SFits, of_z}
-use Rattle.io.specs.Counts.{clamp_len}
+use Rattle.std.specs.Prelude.{Option, Some, None, ◌==◌, position}
+use Rattle.std.specs.List.{position_or_len}
+use Rattle.std.proofs.lemmas.Grind.{common_steps}
+use Rattle.std.proofs.lemmas.List.Quantifiers.{position-Some}
+use lib.ListN.{length, take, drop}
+use borrow.Author.Tests.{le-leb, eqb-true, leb-true, ltb-true}
 use Rattle.octets.proofs.Tests.{cases, both_hold}
 use Rattle.octets.specs.Parts.{part, write}
-use Rattle.octets.proofs.Parts.{part_length, write-length, write-front, write-longer, write-behind}
+use Rattle.octets.proofs.Parts.{part_length, part-front, write-length, write-front, write-longer, write-behind}
 use Rattle.lines.specs.declared.Streams.{Streams}
-use Rattle.lines.specs.Streams.{newline_from, piece_from, next_place, Within, with_waiting, Flushed, has_room, RoomMade, waiting_after, TextWaits, EndWaits, is_left, with_over, is_end, piece_read, Read, Found}
+use Rattle.lines.specs.Streams.{newline_in, newline_from, piece_from, next_place, Within, with_waiting, Flushed, has_room, RoomMade, waiting_after, TextWaits, EndWaits, is_left, with_over, is_end, count_read, piece_read, Read, Found}
 
 -- ---- the place of the first newline
 
-module _ (input : List ℕ) (filled : ℕ) (fits : filled ≤ length input) where
-  all-filled : length (take filled input) ≡ filled
-  all-filled = length-take-le filled input fits
+-- as std finds it
+in_text : (text : List ℕ) → newline_in text ≡ position_or_len (λ c. c == 10) text
+in_text [] = refl
+in_text (c ∷ text) = cases (eqb c 10) (λ e. rw e refl) (λ e. rw e (ap suc (in_text text) ∙ omega arith))
+
+pub newline-few : (text : List ℕ) → newline_in text ≤ length text
+newline-few [] = omega arith
+newline-few (c ∷ text) = cases (eqb c 10) (λ e. rw e (omega arith)) (λ e. rw e (omega (arith, newline-few text)))
+
+module _ (input : List ℕ) (from filled : ℕ) (few : from ≤ filled) (fits : filled ≤ length input) where
+  abbrev text : List ℕ
+  text = part input from (filled - from)
+
+  text-long : length text ≡ filled - from
+  text-long = part_length input from (filled - from) (omega arith)
+
+  text-is : drop from (take filled input) ≡ text
+  text-is =
+      let e : filled ≡ from + (filled - from) = omega arith in
+      ap (λ (n : ℕ). drop from (take n input)) e ∙ sym (part-front input from (filled - from))
 
   -- it is here
-  pub newline-here : (at : ℕ) → at < filled → get_or input at 0 ≡ 10 → newline_from input at filled ≡ at
+  pub newline-at : (count : ℕ) → position (λ c. c == 10) text ≡ Some count → (newline_from input from filled ≡ from + count) × (from + count ≤ filled)
   unfolding newline_from
-  newline-here at h e =
-      rw (drop-cons (take filled input) at 0 (omega (arith, all-filled)), get_or-take filled input at 0 h, e) (omega arith)
-
-  -- it is further on
-  pub newline-on : (at : ℕ) → at < filled → (get_or input at 0 ≡ 10 → ⊥) → newline_from input (suc at) filled ≡ newline_from input at filled
-  unfolding newline_from
-  newline-on at h n =
-      rw (drop-cons (take filled input) at 0 (omega (arith, all-filled)), get_or-take filled input at 0 h, ne_eqb (get_or input at 0) 10 n) (omega arith)
+  newline-at count e =
+      let p = position-Some (λ c. c == 10) text count 0 e in
+      let at : position_or_len (λ c. c == 10) text ≡ count = grind (arith, common_steps) in
+      (ap (λ (t : List ℕ). from + newline_in t) text-is ∙ ap (λ (n : ℕ). from + n) (in_text text ∙ at), omega (arith, text-long, p.0))
 
   -- there is none
-  pub newline-none : newline_from input filled filled ≡ filled
+  pub newline-none : position (λ c. c == 10) text ≡ None → newline_from input from filled ≡ filled
   unfolding newline_from
-  newline-none = rw (drop_of_length-le (take filled input) {i = filled} (omega (arith, all-filled))) (omega arith)
+  newline-none e =
+      let past : length text ≤ position_or_len (λ c. c == 10) text = grind (arith, common_steps) in
+      ap (λ (t : List ℕ). from + newline_in t) text-is ∙ omega (arith, few, past, in_text text, newline-few text, text-long)
 
 -- ---- pieces
 
@@ -76,23 +90,17 @@ read-piece s f r output after filled over x few none empty e =
     }
 
 -- the system's answer counts no more than there is room for, and nothing at the input's end
-pub answer-fits : (got : ℤ) (room : ℕ) → clamp_len got room ≤ room
-answer-fits (pos count) room = omega arith
-answer-fits (negsuc n) room = omega arith
+pub answer-fits : (got : Option ℕ) (room : ℕ) → count_read got room ≤ room
+answer-fits got room = omega arith
 
-end_empty : (got : ℤ) (room : ℕ) → is_end got ≡ true → clamp_len got room ≡ 0
-end_empty (pos count) room e = omega (arith, eqb-true count 0 e)
-end_empty (negsuc n) room e = refl
+end_empty : (got : Option ℕ) (room : ℕ) → is_end got ≡ true → count_read got room ≡ 0
+end_empty (Some count) room e = omega (arith, eqb-true count 0 e)
+end_empty None room e = absurd (false≢true e)
 
-pub read-answered : (s f r : Streams) (output after : List ℕ) (got : ℤ) → Flushed s output f → f.taken ≡ true → r ≡ piece_read f got after → Read s output r after
+pub read-answered : (s f r : Streams) (output after : List ℕ) (got : Option ℕ) → Flushed s output f → f.taken ≡ true → r ≡ piece_read f got after → Read s output r after
 read-answered s f r output after got x taken e =
-    read-piece s f r output after (clamp_len got (length after)) (is_end got) x (answer-fits got (length after)) (λ n. absurd (false≢true (sym n ∙ taken)))
+    read-piece s f r output after (count_read got (length after)) (is_end got) x (answer-fits got (length after)) (λ n. absurd (false≢true (sym n ∙ taken)))
     (end_empty got (length after)) e
-
--- the test of the answer is one of its bits
-pub end-bits : (got : ℤ) → SFits w64 got → eqb (of_z w64 got) 0 ≡ is_end got
-end-bits (pos count) fits = refl
-end-bits (negsuc n) fits = ne_eqb (of_z w64 (negsuc n)) 0 (λ e. omega (arith, fits.sfits))
 
 -- ---- the next piece
 

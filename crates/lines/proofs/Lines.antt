@@ -16,13 +16,9 @@ use Rattle.lines.specs.declared.Streams.{Streams}
 use Rattle.lines.specs.Streams.{newline_in, newline_from, piece_from, piece_in, next_place, with_waiting, is_left, with_over, Found, is_whole}
 use Rattle.lines.specs.Lines.{lines_from, lines_by, ended_from, ended_lines, as_it_stands, Reading, one_if, read_on, Follows, LinesFound, LinesBegun}
 use Rattle.lines.specs.Lines.Follows.{begins, goes}
-use Rattle.lines.proofs.Laws.{left-fits}
+use Rattle.lines.proofs.Laws.{newline-few, left-fits}
 
 -- ---- the first newline of a text
-
-newline-few : (t : List ℕ) → newline_in t ≤ length t
-newline-few [] = omega arith
-newline-few (c ∷ t) = cases (eqb c 10) (λ e. rw e (omega arith)) (λ e. rw e (omega (arith, newline-few t)))
 
 -- the newline itself
 newline-at : (t : List ℕ) → newline_in t < length t → drop (newline_in t) t ≡ 10 ∷ drop (suc (newline_in t)) t

@@ -1,7 +1,7 @@
 -- How a run goes on (`specs/Runs.antt`): at the start, with one turn more, and with the last one.
-use Prim.Native.Nat.{ℕ, suc, ◌-◌, ◌<◌}
+use Prim.Native.Nat.{ℕ, suc, ◌+◌, ◌-◌, ◌≤◌, ◌<◌}
 use native.Mathlib.Omega.{arith}
-use mathlib.Core.Bool.{true, false, false≢true}
+use mathlib.Core.Bool.{true, false, not, false≢true}
 use mathlib.Core.List.{◌++◌}
 use mathlib.Core.Path.{◌≡◌, refl, sym, ◌∙◌}
 use Rattle.octets.proofs.Tests.{cases}
@@ -42,3 +42,21 @@ module _ (P : Program) {ρ : Start P} (σ : P.State) {left : ℕ} (run : RunsTo 
     counted = λ e. absurd (false≢true (sym n ∙ e));
     stopped = λ _. refl;
   }
+
+-- the same by a count of turns, as a `for` over them has it
+module _ (P : Program) {ρ : Start P} (σ : P.State) {turn : ℕ} (run : RunsTo P ρ σ (18446744073709551615 - turn)) (more : turn < 18446744073709551615)
+    (τ : P.State) (t : P.Turn σ τ) where
+  pub turn-next : not (P.streams τ).found ≡ false → RunsTo P ρ τ (18446744073709551615 - (turn + 1))
+  turn-next n =
+      cases (P.streams τ).found
+      (λ e. let less : 18446744073709551615 - turn - 1 ≡ 18446744073709551615 - (turn + 1) = omega (arith, more) in
+      rw less at (runs_on P σ run (omega (arith, more)) τ t e))
+      (λ e. absurd (false≢true (sym (rw e at n))))
+
+  pub turn-last : not (P.streams τ).found ≡ true → RunsTo P ρ τ 0
+  turn-last y = cases (P.streams τ).found (λ e. absurd (false≢true (rw e at y))) (λ e. runs-out P σ run (omega (arith, more)) τ t e)
+
+-- all of them taken
+pub turns-over : (P : Program) {ρ : Start P} (σ : P.State) {turn : ℕ} → RunsTo P ρ σ (18446744073709551615 - turn) → 18446744073709551615 ≤ turn
+    → RunsTo P ρ σ 0
+turns-over P σ {turn} run over = let none : 18446744073709551615 - turn ≡ 0 = omega (arith, over) in rw none at run

@@ -1,8 +1,7 @@
 -- How far a program has come in its input and its output. What is read, and whether what is written out is taken, the system answers; all else
 -- is said here.
-use Rattle.std.specs.Prelude.{ℕ, suc, ◌+◌, ◌-◌, ◌≤◌, ◌<◌, Bool, true, false, ◌&&◌, ◌||◌, cond, List, [], ◌∷◌, ◌++◌, ◌≡◌, leb, ltb, eqb, length, take, drop, ℤ, pos, negsuc, min, Result, Ok, Err}
+use Rattle.std.specs.Prelude.{ℕ, suc, ◌+◌, ◌-◌, ◌≤◌, ◌<◌, Bool, true, false, ◌&&◌, ◌||◌, cond, List, [], ◌∷◌, ◌++◌, ◌≡◌, leb, ltb, eqb, length, take, drop, min, unwrap_or, Option, Some, None, Result, Ok, Err}
 use Rattle.std.specs.declared.io.Error.{Error}
-use Rattle.io.specs.Counts.{clamp_len}
 use Rattle.octets.specs.Parts.{part, write}
 use Rattle.lines.specs.declared.Streams.{Streams}
 
@@ -95,19 +94,23 @@ is_left s input output = leb s.filled (length input) && (leb s.waiting (length o
 abbrev pub with_over : Streams → Bool → Streams
 with_over s over = record { from = s.from; to = s.to; ends = s.ends; filled = s.filled; found = s.found; over = over; waiting = s.waiting; taken = s.taken }
 
--- the system's answer to a read as a number: how many octets it had, and -1 where it failed
-abbrev pub answer_of : Result ℕ Error → ℤ
-answer_of (Ok count) = pos (min count 9223372036854775807)
-answer_of (Err error) = negsuc 0
+-- how many octets the system's answer to a read says it had; none where it failed
+abbrev pub answer_of : Result ℕ Error → Option ℕ
+answer_of (Ok count) = Some count
+answer_of (Err error) = None
 
 -- the system's answer to a read says that the input is at its end: that it read nothing, and did not fail
-abbrev pub is_end : ℤ → Bool
-is_end (pos count) = eqb count 0
-is_end (negsuc n) = false
+abbrev pub is_end : Option ℕ → Bool
+is_end (Some count) = eqb count 0
+is_end None = false
+
+-- how many octets of it there are: no more than there is room for
+abbrev pub count_read : Option ℕ → ℕ → ℕ
+count_read got room = min (unwrap_or got 0) room
 
 -- the first piece of what was read, as the system answered
-abbrev pub piece_read : Streams → ℤ → List ℕ → Streams
-piece_read s got input = with_over (piece_from s input 0 (clamp_len got (length input))) (is_end got)
+abbrev pub piece_read : Streams → Option ℕ → List ℕ → Streams
+piece_read s got input = with_over (piece_from s input 0 (count_read got (length input))) (is_end got)
 
 -- what was read: the first piece of it, what waits written out; nothing is read where standard output takes no more
 pub record Read (s : Streams) (output : List ℕ) (r : Streams) (after : List ℕ) : Type 0 where

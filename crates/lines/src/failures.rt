@@ -1,5 +1,7 @@
 // What is said on standard error where the system refuses.
+use arrayvec::ArrayString;
 use std::fmt;
+use std::fmt::Write;
 use std::io::Error;
 
 // Writes a line to standard error: what failed, a colon, and the reason.
@@ -17,12 +19,9 @@ struct Reason {
 
 impl fmt::Display for Reason {
     fn fmt<W: fmt::Write>(&self, f: &mut fmt::Formatter<W>) -> fmt::Result {
-        let mut text = Text {
-            octets: [0; 512],
-            length: 0,
-        };
+        let mut text = ArrayString::<512>::new();
         let error = self.error;
-        fmt::Write::write_fmt(&mut text, format_args!("{error}"))?;
+        write!(text, "{error}")?;
         f.write_str(without_number(text.as_str()))
     }
 }
@@ -32,37 +31,5 @@ fn without_number(text: &str) -> &str {
     match text.split_once(" (os error ") {
         Some((reason, _)) => reason,
         None => text,
-    }
-}
-
-// The text of an error, all in octets that it has itself.
-#[derive(Drop)]
-struct Text {
-    octets: [u8; 512],
-    length: usize,
-}
-
-impl Text {
-    fn as_str(&self) -> &str {
-        if self.length > 512 {
-            return "";
-        }
-        match str::from_utf8(&self.octets[..self.length]) {
-            Ok(text) => text,
-            Err(_) => "",
-        }
-    }
-}
-
-impl fmt::Write for Text {
-    fn write_str(&mut self, s: &str) -> fmt::Result {
-        for octet in s.as_bytes() {
-            if self.length >= 512 {
-                return Err(fmt::Error);
-            }
-            self.octets[self.length] = *octet;
-            self.length += 1;
-        }
-        Ok(())
     }
 }

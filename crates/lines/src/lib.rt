@@ -3,7 +3,7 @@
 // on standard error says so.
 #![tactic(auto)]
 
-ghost use Rattle.std.specs.Prelude.{◌≡◌, ◌+◌, ◌≤◌, length};
+ghost use Rattle.std.specs.Prelude.{◌≡◌, ◌==◌, ◌+◌, ◌≤◌, length, position};
 ghost use Rattle.lines.specs.Streams.{nothing_read, answer_of, newline_from, piece_from, next_place, Within, with_waiting, Flushed, RoomMade, waiting_after, is_left, piece_read, Read, Found, is_whole};
 
 mod failures;
@@ -12,6 +12,8 @@ pub use failures::say_failed;
 use std::io::{Error, Read};
 
 // How far a program has come in its input and its output.
+// Its flags stay flags, and no enum of them: `LinesFound` and `LinesBegun` of specs/Lines.antt speak of `found`, of `over` and of `ends`, each alone.
+// The buffers are lent beside it and not held in it: `Found` and `Flushed` of specs/Streams.antt speak of each apart, and it is copied freely.
 #[derive(Clone, Copy)]
 pub struct Streams {
     // The piece found last: from one place of the input buffer to another, the newline left out.
@@ -47,19 +49,22 @@ pub fn start() -> Streams
     }
 }
 
+// How many octets of a text come before its first newline.
+fn before_newline(text: &[u8]) -> Option<usize>
+    ensures { result ≡ position (λ c. c == 10) text.now }
+{
+    text.iter().position(|c| *c == b'\n')
+}
+
 // The place of the first newline from a place on; the end where there is none.
 fn find_newline(input: &[u8], from: usize, filled: usize) -> usize
     requires { (from ≤ filled) × (filled ≤ length input.now) }
     ensures { (result ≡ newline_from input.now from filled) × (from ≤ result) × (result ≤ filled) }
 {
-    let mut at = from;
-    while at < filled {
-        if input[at] == b'\n' {
-            return at;
-        }
-        at += 1;
+    match before_newline(&input[from..filled]) {
+        Some(count) => from + count,
+        None => filled,
     }
-    filled
 }
 
 // The piece from a place on.
@@ -68,14 +73,15 @@ fn piece_from(streams: Streams, input: &[u8], from: usize, filled: usize) -> Str
     ensures { (result ≡ piece_from streams input.now from filled) × (from ≤ result.to) × (result.to ≤ filled) }
 {
     let to = find_newline(input, from, filled);
-    let mut after = streams;
-    after.from = from;
-    after.to = to;
-    after.ends = to < filled;
-    after.filled = filled;
-    after.found = from < filled;
-    after.over = false;
-    after
+    Streams {
+        from,
+        to,
+        ends: to < filled,
+        filled,
+        found: from < filled,
+        over: false,
+        ..streams
+    }
 }
 
 // Writes a text out, and answers whether standard output took it. What was not taken is lost, so that is said.
@@ -93,52 +99,52 @@ fn write_out<P: Print + Eprint>(rt: &P, text: &[u8]) -> bool {
 pub fn flush<P: Print + Eprint>(rt: &P, streams: Streams, output: &[u8]) -> Streams
     ensures { Flushed streams output.now result × (result.waiting ≡ 0) }
 {
-    let waiting = streams.waiting;
-    let mut after = streams;
-    after.waiting = 0;
-    if output.len() < waiting {
-        return after;
+    let taken = match output.get(..streams.waiting) {
+        Some(text) if streams.taken => write_out(rt, text),
+        _ => streams.taken,
+    };
+    let waiting = 0;
+    Streams {
+        waiting,
+        taken,
+        ..streams
     }
-    if after.taken {
-        after.taken = write_out(rt, &output[..waiting]);
-    }
-    after
 }
 
 // Where the piece after the last one begins.
 fn next_place(streams: Streams) -> usize
     ensures { result ≡ next_place streams }
 {
-    if streams.ends {
-        if streams.to < streams.filled {
-            return streams.to + 1;
-        }
+    if streams.ends && streams.to < streams.filled {
+        streams.to + 1
+    } else {
+        streams.to
     }
-    streams.to
 }
 
-// The system's answer to a read as a number: how many octets it had, 0 at the input's end, and less where it failed, which a line on standard error
-// says.
-fn answer_of<E: Eprint>(rt: &E, answer: Result<usize, Error>) -> isize
+// How many octets the system's answer to a read says it had, 0 at the input's end; none where it failed, which a line on standard error says.
+fn answer_of<E: Eprint>(rt: &E, answer: Result<usize, Error>) -> Option<usize>
     ensures { result ≡ answer_of answer }
 {
     match answer {
-        Ok(count) => count.min(isize::MAX as usize) as isize,
+        Ok(count) => Some(count),
         Err(error) => {
             say_failed(rt, "cannot read the input", error);
-            -1
+            None
         }
     }
 }
 
-// The first piece of what was read, as the system answered: 0 at the input's end, and less where it failed.
-fn piece_read(streams: Streams, got: isize, input: &[u8]) -> Streams
+// The first piece of what was read, as the system answered.
+fn piece_read(streams: Streams, got: Option<usize>, input: &[u8]) -> Streams
     ensures { (result ≡ piece_read streams got input.now) × (result.from ≤ result.to) × (result.to ≤ length input.now) }
 {
-    let filled = io::count(got, input);
-    let mut after = piece_from(streams, input, 0, filled);
-    after.over = got == 0;
-    after
+    let filled = got.unwrap_or(0).min(input.len());
+    let piece = piece_from(streams, input, 0, filled);
+    Streams {
+        over: got == Some(0),
+        ..piece
+    }
 }
 
 // Writes out what waits, and reads on.
@@ -164,10 +170,9 @@ fn read_more<P: Print + Eprint, R: Read>(
 fn is_left(streams: Streams, input: &[u8], output: &[u8]) -> bool
     ensures { result ≡ is_left streams input.now output.now }
 {
-    let from = next_place(streams);
-    let filled = streams.filled;
-    let waiting = streams.waiting;
-    (filled <= input.len()) & ((waiting <= output.len()) & (from < filled))
+    streams.filled <= input.len()
+        && streams.waiting <= output.len()
+        && next_place(streams) < streams.filled
 }
 
 // The next piece of the input: of the line begun, or of the next one where the last piece ended its line.
@@ -193,7 +198,7 @@ pub fn next_piece<P: Print + Eprint, R: Read>(
 pub fn is_whole(streams: Streams, held: usize) -> bool
     ensures { result ≡ is_whole streams held }
 {
-    streams.ends | (streams.over & (0 < held))
+    streams.ends || (streams.over && 0 < held)
 }
 
 // Room for so much more text in the output: where there is less, what waits is written out.
@@ -202,35 +207,29 @@ pub fn make_room<P: Print + Eprint>(rt: &P, streams: Streams, output: &[u8], roo
         × (result.waiting ≤ length output.now)
         × (room ≤ length output.now → result.waiting + room ≤ length output.now) }
 {
-    let text = streams.waiting;
-    if output.len() < text {
-        return flush(rt, streams, output);
+    if streams.waiting <= output.len() && room <= output.len() - streams.waiting {
+        return streams;
     }
-    if output.len() - text < room {
-        return flush(rt, streams, output);
-    }
-    streams
+    flush(rt, streams, output)
 }
 
 // How much text waits with so much more.
 fn waiting_after(waiting: usize, output: &[u8], count: usize) -> usize
     ensures { result ≡ waiting_after waiting output.now count }
 {
-    if output.len() < waiting {
-        return 0;
+    match output.len().checked_sub(waiting) {
+        Some(room) if count <= room => waiting + count,
+        Some(_) => waiting,
+        None => 0,
     }
-    if output.len() - waiting < count {
-        return waiting;
-    }
-    waiting + count
 }
 
 // So much more text waits, which the program has put behind what waited.
 pub fn add_waiting(streams: Streams, output: &[u8], count: usize) -> Streams
     ensures { result ≡ with_waiting streams (waiting_after streams.waiting output.now count) streams.taken }
 {
-    let waiting = streams.waiting;
-    let mut after = streams;
-    after.waiting = waiting_after(waiting, output, count);
-    after
+    Streams {
+        waiting: waiting_after(streams.waiting, output, count),
+        ..streams
+    }
 }

@@ -6,14 +6,14 @@ ghost use Rattle.links.specs.Marks.{is_marked, with_mark, all_marked, none_above
 ghost use Rattle.links.specs.Links.{sends, first_number, is_last, in_use};
 ghost use Rattle.links.specs.Station.{is_open};
 
-use links::{LastDelivered, LinkState, Side};
+use links::{LinkState, Side};
 use transactions::TransactionNumber;
 
 // Whether segment k is in.
 pub fn is_marked(marks: u64, k: usize) -> bool
     ensures { result ≡ is_marked marks k }
 {
-    if k < 64 { (marks >> k) % 2 == 1 } else { false }
+    k < 64 && (marks >> k) % 2 == 1
 }
 
 // The marks with segment k in too; as they were above segment 63, which no message has.
@@ -41,7 +41,7 @@ pub fn all_marked(n: usize, marks: u64) -> bool
 pub fn none_above(n: usize, marks: u64) -> bool
     ensures { result ≡ none_above n marks }
 {
-    if n < 63 { marks >> (n + 1) == 0 } else { true }
+    n >= 63 || marks >> (n + 1) == 0
 }
 
 // Whether an end sends a number.
@@ -65,31 +65,22 @@ pub fn first_number(side: Side) -> TransactionNumber
 }
 
 // Whether a number is the last delivered.
-pub fn is_last(last: LastDelivered, number: TransactionNumber) -> bool
+pub fn is_last(last: Option<TransactionNumber>, number: TransactionNumber) -> bool
     ensures { result ≡ is_last last number }
 {
-    match last {
-        LastDelivered::Nothing => false,
-        LastDelivered::Number(t) => t.0 == number.0,
-    }
+    last == Some(number)
 }
 
 // Whether a record is opening or open.
 pub fn is_in_use(state: LinkState) -> bool
     ensures { result ≡ in_use state }
 {
-    match state {
-        LinkState::Free => false,
-        LinkState::Open | LinkState::Opening => true,
-    }
+    matches!(state, LinkState::Opening | LinkState::Open)
 }
 
 // Whether a record is open.
 pub fn is_open(state: LinkState) -> bool
     ensures { result ≡ is_open state }
 {
-    match state {
-        LinkState::Open => true,
-        LinkState::Free | LinkState::Opening => false,
-    }
+    state == LinkState::Open
 }

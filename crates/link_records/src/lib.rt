@@ -7,28 +7,28 @@ ghost use Rattle.links.specs.Station.{no_link};
 ghost use Rattle.links.specs.declared.Side.TheVariants.{Provisioner};
 ghost use Rattle.link_records.specs.Records.{call_refused, stored};
 
-use links::{Answer, HalfReceived, LastDelivered, Link, LinkState, Refusal, Side};
+use links::{Answer, Link, LinkState, Refusal, Side};
 use transactions::TransactionNumber;
 
 // The records after a call, and its answer.
+// A record of its own, as each call's: one generic record of a state and an answer would call them by one name with all others, and be no plainer.
 #[derive(Clone, Copy)]
 pub struct Received {
     pub links: [Link; 8],
-    pub answer: Answer,
+    pub answer: Result<Answer, Refusal>,
 }
 
 // A record of an end in a state and with a Link ID, and else blank.
 pub fn blank_with(side: Side, state: LinkState, id: u32) -> Link
     ensures { result ≡ blank_with side state id }
 {
-    let next = link_fields::first_number(side);
     Link {
-        state: state,
-        id: id,
-        next: next,
+        state,
+        id,
+        next: link_fields::first_number(side),
         outstanding: false,
-        last: LastDelivered::Nothing,
-        half: HalfReceived::Nothing,
+        last: None,
+        half: None,
     }
 }
 
@@ -36,24 +36,17 @@ pub fn blank_with(side: Side, state: LinkState, id: u32) -> Link
 pub fn blank_links() -> [Link; 8]
     ensures { result ≡ replicate 8 (blank Provisioner) }
 {
-    let link = blank_with(Side::Provisioner, LinkState::Free, 0);
-    [link; 8]
+    [blank_with(Side::Provisioner, LinkState::Free, 0); 8]
 }
 
 // The record with another sending number and outstanding mark.
 pub fn with_sending(link: Link, next: TransactionNumber, outstanding: bool) -> Link
     ensures { result ≡ with_sending link next outstanding }
 {
-    let state = link.state;
-    let last = link.last;
-    let half = link.half;
     Link {
-        state: state,
-        id: link.id,
-        next: next,
-        outstanding: outstanding,
-        last: last,
-        half: half,
+        next,
+        outstanding,
+        ..link
     }
 }
 
@@ -62,8 +55,8 @@ pub fn refuse_call(links: [Link; 8], refusal: Refusal) -> Received
     ensures { result ≡ call_refused links refusal }
 {
     Received {
-        links: links,
-        answer: Answer::Refused(refusal),
+        links,
+        answer: Err(refusal),
     }
 }
 
@@ -71,22 +64,24 @@ pub fn refuse_call(links: [Link; 8], refusal: Refusal) -> Received
 pub fn link_at(links: [Link; 8], place: usize) -> Link
     ensures { result ≡ get_or links place no_link }
 {
-    if place < 8 {
-        return links[place];
+    match links.get(place) {
+        Some(link) => *link,
+        None => blank_with(Side::Provisioner, LinkState::Free, 0),
     }
-    blank_with(Side::Provisioner, LinkState::Free, 0)
 }
 
 // The records with another at a place, if there is such a place, and an answer.
-pub fn store(links: [Link; 8], place: usize, link: Link, answer: Answer) -> Received
+pub fn store(
+    links: [Link; 8],
+    place: usize,
+    link: Link,
+    answer: Result<Answer, Refusal>,
+) -> Received
     ensures { result ≡ stored links place link answer }
 {
-    let mut out = links;
+    let mut links = links;
     if place < 8 {
-        out[place] = link;
+        links[place] = link;
     }
-    Received {
-        links: out,
-        answer: answer,
-    }
+    Received { links, answer }
 }

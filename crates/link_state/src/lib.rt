@@ -1,15 +1,17 @@
 // The test for a state that is not bad.
 #![tactic(auto)]
 
-ghost use Rattle.std.specs.Prelude.{◌≡◌, ◌&&◌, not, eqb, drop};
+ghost use Rattle.std.specs.Prelude.{◌≡◌, ◌&&◌, not};
 ghost use Rattle.transactions.specs.Segments.{seg_n};
 ghost use Rattle.links.specs.Marks.{is_marked, all_marked, none_above};
-ghost use Rattle.links.specs.Links.{peer, first_number};
-ghost use Rattle.links.specs.Good.{good_message, good_half, good_last, is_nothing, is_empty, at_rest, good_as, good_link, apart, all, all_apart, good};
-ghost use Rattle.links.specs.declared.LinkState.TheVariants.{Opening, Open};
+ghost use Rattle.links.specs.Links.{peer};
+ghost use Rattle.std.specs.List.{list_all};
+ghost use Rattle.links.specs.Good.{good_message, good_half, good_last, at_rest, good_link, apart, all_apart, good};
 
-use link_fields::{all_marked, is_in_use, is_last, is_marked, is_sent_by, none_above};
-use links::{HalfMessage, HalfReceived, LastDelivered, Link, LinkState, Side};
+use link_fields::{
+    all_marked, first_number, is_in_use, is_last, is_marked, is_sent_by, none_above,
+};
+use links::{HalfMessage, Link, LinkState, Side};
 use transactions::{TransactionNumber, last_segment};
 
 // The other end.
@@ -27,80 +29,34 @@ fn good_marks(length: u16, marks: u64) -> bool
     ensures { result ≡ (is_marked marks 0 && (not (all_marked (seg_n length) marks) && none_above (seg_n length) marks)) }
 {
     let last = last_segment(length) as usize;
-    if is_marked(marks, 0) {
-        if all_marked(last, marks) {
-            false
-        } else {
-            none_above(last, marks)
-        }
-    } else {
-        false
-    }
+    is_marked(marks, 0) && !all_marked(last, marks) && none_above(last, marks)
 }
 
-fn good_message(side: Side, last: LastDelivered, message: HalfMessage) -> bool
+#[tactic(auto, unfolding(links::specs::Good::good_message))]
+fn good_message(side: Side, last: Option<TransactionNumber>, message: HalfMessage) -> bool
     ensures { result ≡ good_message side last message }
 {
-    let number = message.number;
-    let length = message.length;
-    if is_sent_by(peer_of(side), number) {
-        if octets::is_length(length as usize) {
-            if is_last(last, number) {
-                false
-            } else {
-                good_marks(length, message.marks)
-            }
-        } else {
-            false
-        }
-    } else {
-        false
-    }
+    is_sent_by(peer_of(side), message.number)
+        && octets::is_length(message.length as usize)
+        && !is_last(last, message.number)
+        && good_marks(message.length, message.marks)
 }
 
-fn good_half(side: Side, last: LastDelivered, half: HalfReceived) -> bool
+fn good_half(side: Side, last: Option<TransactionNumber>, half: Option<HalfMessage>) -> bool
     ensures { result ≡ good_half side last half }
 {
     match half {
-        HalfReceived::Nothing => true,
-        HalfReceived::Message(message) => good_message(side, last, message),
+        None => true,
+        Some(message) => good_message(side, last, message),
     }
 }
 
-fn good_last(side: Side, last: LastDelivered) -> bool
+fn good_last(side: Side, last: Option<TransactionNumber>) -> bool
     ensures { result ≡ good_last side last }
 {
     match last {
-        LastDelivered::Nothing => true,
-        LastDelivered::Number(number) => is_sent_by(peer_of(side), number),
-    }
-}
-
-fn is_nothing(last: LastDelivered) -> bool
-    ensures { result ≡ is_nothing last }
-{
-    match last {
-        LastDelivered::Nothing => true,
-        LastDelivered::Number(_) => false,
-    }
-}
-
-fn is_empty(half: HalfReceived) -> bool
-    ensures { result ≡ is_empty half }
-{
-    match half {
-        HalfReceived::Nothing => true,
-        HalfReceived::Message(_) => false,
-    }
-}
-
-// Whether a number is the one that an end sends first.
-fn is_first(side: Side, number: TransactionNumber) -> bool
-    ensures { result ≡ eqb number.0 (first_number side).0 }
-{
-    match side {
-        Side::Provisioner => number.0 == 0,
-        Side::Device => number.0 == 128,
+        None => true,
+        Some(number) => is_sent_by(peer_of(side), number),
     }
 }
 
@@ -108,139 +64,62 @@ fn is_first(side: Side, number: TransactionNumber) -> bool
 fn is_at_rest(side: Side, link: Link) -> bool
     ensures { result ≡ at_rest side link }
 {
-    let next = link.next;
-    let last = link.last;
-    let half = link.half;
-    if is_first(side, next) {
-        if link.outstanding {
-            false
-        } else if is_nothing(last) {
-            is_empty(half)
-        } else {
-            false
-        }
-    } else {
-        false
-    }
+    link.next == first_number(side)
+        && !link.outstanding
+        && link.last.is_none()
+        && link.half.is_none()
 }
 
-// Whether an opening record is not bad by itself; the device's end has none.
-fn good_opening(side: Side, link: Link) -> bool
-    ensures { result ≡ good_as side Opening link }
-{
-    match side {
-        Side::Provisioner => is_at_rest(Side::Provisioner, link),
-        Side::Device => false,
-    }
-}
-
-// Whether an open record is not bad by itself.
-fn good_open(side: Side, link: Link) -> bool
-    ensures { result ≡ good_as side Open link }
-{
-    let next = link.next;
-    let last = link.last;
-    let half = link.half;
-    if is_sent_by(side, next) {
-        if good_last(side, last) {
-            good_half(side, last, half)
-        } else {
-            false
-        }
-    } else {
-        false
-    }
-}
-
-// Whether a record is not bad by itself.
+// Whether a record is not bad by itself; the device's end has none that is opening.
 pub fn is_good_link(side: Side, link: Link) -> bool
     ensures { result ≡ good_link side link }
 {
-    let state = link.state;
-    match state {
-        LinkState::Free => {
-            if link.id == 0 {
-                is_at_rest(side, link)
-            } else {
-                false
-            }
+    match link.state {
+        LinkState::Free => link.id == 0 && is_at_rest(side, link),
+        LinkState::Opening => side == Side::Provisioner && is_at_rest(side, link),
+        LinkState::Open => {
+            is_sent_by(side, link.next)
+                && good_last(side, link.last)
+                && good_half(side, link.last, link.half)
         }
-        LinkState::Opening => good_opening(side, link),
-        LinkState::Open => good_open(side, link),
     }
 }
 
 // Whether each record is not bad by itself.
 fn all_good(side: Side, links: [Link; 8]) -> bool
-    ensures { result ≡ all (good_link side) links }
+    ensures { result ≡ list_all (good_link side) links }
 {
-    let mut i = 0;
-    while i < 8 {
-        let link = links[i];
-        if is_good_link(side, link) {
-            i += 1;
-        } else {
-            return false;
-        }
-    }
-    true
+    links.iter().all(|link| is_good_link(side, *link))
 }
 
 // Whether two records do not have one Link ID in use.
 fn are_apart(a: Link, b: Link) -> bool
     ensures { result ≡ apart a b }
 {
-    let first = a.state;
-    let second = b.state;
-    if a.id != b.id {
-        return true;
-    }
-    if is_in_use(first) {
-        if is_in_use(second) { false } else { true }
-    } else {
-        true
-    }
+    a.id != b.id || !is_in_use(a.state) || !is_in_use(b.state)
 }
 
-// Whether a record has no Link ID in use with those from a place on.
-fn is_apart_from(link: Link, links: [Link; 8], from: usize) -> bool
-    ensures { result ≡ all (apart link) (drop from links) }
+// Whether a record has no Link ID in use with any of others.
+fn is_apart_from(link: Link, others: &[Link]) -> bool
+    ensures { result ≡ list_all (apart link) others.now }
 {
-    let mut i = from;
-    while i < 8 {
-        let other = links[i];
-        if are_apart(link, other) {
-            i += 1;
-        } else {
-            return false;
-        }
-    }
-    true
+    others.iter().all(|other| are_apart(link, *other))
 }
 
 // Whether no two of the records have one Link ID in use.
-fn all_apart(links: [Link; 8]) -> bool
-    ensures { result ≡ all_apart links }
+fn all_apart(links: &[Link]) -> bool
+    ensures { result ≡ all_apart links.now }
 {
-    let mut i = 0;
-    while i < 8 {
-        let link = links[i];
-        if is_apart_from(link, links, i + 1) {
-            i += 1;
-        } else {
-            return false;
-        }
+    match links.split_first() {
+        None => true,
+        Some((link, others)) => is_apart_from(*link, others) && all_apart(others),
     }
-    true
 }
 
 // Whether the state of eight records is not bad.
+#[tactic(auto, unfolding(links::specs::Good::good))]
 pub fn is_good(side: Side, links: [Link; 8]) -> bool
     ensures { result ≡ good side links }
 {
-    if all_good(side, links) {
-        all_apart(links)
-    } else {
-        false
-    }
+    all_good(side, links) && all_apart(&links)
 }

@@ -1,6 +1,11 @@
 -- Demand 2, back: the frames of a message's cut, in any order from a Start on and with any repeats, give the message back, whatever comes for other
 -- links in between, and for this one that is neither a segment nor a Close.
 use Prim.Native.Nat.{ℕ, zero, suc, ◌≤◌}
+use Rattle.links.specs.declared.Answer.{Answer}
+use Rattle.links.specs.declared.Refusal.{Refusal}
+use Rattle.pb_adv.specs.declared.Frame.{Frame}
+use Rattle.pb_adv.specs.declared.FrameRefusal.{FrameRefusal}
+use Rattle.std.specs.Prelude.{Some, Result, Ok, Err}
 use native.Mathlib.Omega.{arith}
 use mathlib.Core.Bool.{Bool, true, false, ◌&&◌, false≢true}
 use mathlib.Core.List.Memᴰ
@@ -18,8 +23,7 @@ use Rattle.transactions.specs.Segments.{seg_n}
 use Rattle.transactions.specs.declared.TransactionNumber.{TransactionNumber}
 use Rattle.transactions.specs.declared.Socket.{Socket}
 use Rattle.pb_adv.specs.Frame.{link_id, parsed}
-use Rattle.pb_adv.specs.declared.Parsed.{Parsed}
-use Rattle.pb_adv.specs.declared.Parsed.TheVariants as P
+use Rattle.pb_adv.specs.declared.Frame.TheVariants as P
 use Rattle.pb_adv_writing.specs.Writing.{segment_frame, message_frames, SegmentAsked}
 use Rattle.pb_adv_writing.proofs.Promises.{parsed-frame}
 use Rattle.links.specs.Links.{End, side_of, sends, in_use, told}
@@ -36,8 +40,6 @@ use Rattle.links.specs.declared.Side.TheVariants.{Provisioner, Device}
 use Rattle.links.specs.declared.LinkState.{LinkState}
 use Rattle.links.specs.declared.LinkState.TheVariants as S
 use Rattle.links.specs.declared.Link.{Link}
-use Rattle.links.specs.declared.Found.TheVariants.{At}
-use Rattle.links.specs.declared.Answer.{Answer}
 use Rattle.links.specs.declared.Answer.TheVariants as A
 use Rattle.links.proofs.Come.{since_start, push, complete, complete-nil, each-complete, since-start-snoc}
 use Rattle.links.proofs.Deliver.{Inv, fresh, inv-same, answer_to, step-inv, inv-stands}
@@ -52,13 +54,13 @@ use Rattle.links.proofs.Promises.{step_of, by-step, stepped, received-at, receiv
 
 -- ---- what operations bring to the link of a Link ID: the numbers of the segments, in their order
 
-abbrev is_segment : Parsed → Bool
-is_segment (P.Segment s) = true
-is_segment (P.Acknowledgement id t) = false
-is_segment (P.Open id uuid) = false
-is_segment (P.Ack id) = false
-is_segment (P.Close id reason) = false
-is_segment (P.Refused r) = false
+abbrev is_segment : Result Frame FrameRefusal → Bool
+is_segment (Ok (P.Segment s)) = true
+is_segment (Ok (P.Acknowledgement id t)) = false
+is_segment (Ok (P.Open id uuid)) = false
+is_segment (Ok (P.Ack id)) = false
+is_segment (Ok (P.Close id reason)) = false
+is_segment (Err r) = false
 
 -- octets that are a segment with the Link ID
 abbrev is_own : ℕ → List ℕ → Bool
@@ -126,35 +128,35 @@ module _ (side : Side) (x : OneLink) (f : List ℕ) where
   ack-same Provisioner = same_half x
   ack-same Device = same_half x
 
-  other-same : (p : Parsed) → is_other p ≡ true → SameHalf x (frame_step side x S.Open f p).1
+  other-same : (p : Result Frame FrameRefusal) → is_other p ≡ true → SameHalf x (frame_step side x S.Open f p).1
   unfolding frame_step acknowledgement_step
-  other-same (P.Segment s) e = absurd (false≢true e)
-  other-same (P.Acknowledgement id t) e =
+  other-same (Ok (P.Segment s)) e = absurd (false≢true e)
+  other-same (Ok (P.Acknowledgement id t)) e =
       cases (sends side t)
       (λ q. rw q (cases (x.link.outstanding && eqb x.link.next.0 t.0)
       (λ v. rw v (record { state = refl; id = refl; last = refl; half = refl; part = refl })) (λ v. rw v (same_half x))))
       (λ q. rw q (same_half x))
-  other-same (P.Open id uuid) e = same_half x
-  other-same (P.Ack id) e = ack-same side
-  other-same (P.Close id reason) e = absurd (false≢true e)
-  other-same (P.Refused r) e = same_half x
+  other-same (Ok (P.Open id uuid)) e = same_half x
+  other-same (Ok (P.Ack id)) e = ack-same side
+  other-same (Ok (P.Close id reason)) e = absurd (false≢true e)
+  other-same (Err r) e = same_half x
 
 -- and so does an Open that comes to a device
 open-same : (own : List ℕ) (x : OneLink) (f : List ℕ) (id uuid : ℕ) → in_use x.link.state ≡ true → SameHalf x (open_step own x f id uuid).1
 open-same own x f id uuid u = open-holds own x f id uuid (SameHalf x) (same_half x) (λ n. absurd (false≢true (sym n ∙ u)))
 
-step_same : (end : End) (x : OneLink) (f : List ℕ) → x.link.state ≡ S.Open → (p : Parsed) → is_other p ≡ true → SameHalf x (step_of end x f p).1
+step_same : (end : End) (x : OneLink) (f : List ℕ) → x.link.state ≡ S.Open → (p : Result Frame FrameRefusal) → is_other p ≡ true → SameHalf x (step_of end x f p).1
 step_same end x f opened p h =
     by-step (λ q. SameHalf x q.1) end x f p (λ own id uuid _ _. open-same own x f id uuid (rw opened))
     (subst (λ (state : LinkState). SameHalf x (frame_step (side_of end) x state f p).1) (sym opened) (other-same (side_of end) x f p h))
 
-not-segment : (p : Parsed) → is_other p ≡ true → is_segment p ≡ false
-not-segment (P.Segment s) e = absurd (false≢true e)
-not-segment (P.Acknowledgement id t) e = refl
-not-segment (P.Open id uuid) e = refl
-not-segment (P.Ack id) e = refl
-not-segment (P.Close id reason) e = refl
-not-segment (P.Refused r) e = refl
+not-segment : (p : Result Frame FrameRefusal) → is_other p ≡ true → is_segment p ≡ false
+not-segment (Ok (P.Segment s)) e = absurd (false≢true e)
+not-segment (Ok (P.Acknowledgement id t)) e = refl
+not-segment (Ok (P.Open id uuid)) e = refl
+not-segment (Ok (P.Ack id)) e = refl
+not-segment (Ok (P.Close id reason)) e = refl
+not-segment (Err r) e = refl
 
 module _ (end : End) (σ : Station) (socket : Socket) (m : Message) (P : Prepared end σ socket m) where
   -- its place
@@ -212,14 +214,14 @@ module _ (end : End) (σ : Station) (socket : Socket) (m : Message) (P : Prepare
     takes f of_cut k b e =
         let w = step-inv octets t P.ready.some-octets l (get_link s τ) k b g.inv in
         own f of_cut refl k (subst (λ (h : List ℕ). (cs : List Operation) → brings id (receiving h ∷ cs) ≡ k ∷ brings id cs) (sym e) (brings-frame k b))
-        (ap (λ (r : Answer × Station). r.0) (goes end τ s id g.at t octets k (asked k b) P.ready.number f e) ∙ w.0)
+        (ap (λ (r : Result Answer Refusal × Station). r.0) (goes end τ s id g.at t octets k (asked k b) P.ready.number f e) ∙ w.0)
         (record {
           at = stays end τ s id g.at t octets k (asked k b) P.ready.number f e;
           inv = rw (same end τ s id g.at t octets k (asked k b) P.ready.number f e) w.1;
         })
 
     -- octets that are no segment of this link
-    passes : (f : List ℕ) → Octets f → is_own id f ≡ false → ((at : addressed end τ.links (parsed f) ≡ At s) → SameHalf (get_link s τ) (stepped end τ f s)) → Turn l τ (receiving f)
+    passes : (f : List ℕ) → Octets f → is_own id f ≡ false → ((at : addressed end τ.links (parsed f) ≡ Some s) → SameHalf (get_link s τ) (stepped end τ f s)) → Turn l τ (receiving f)
     passes f o h k =
         other (λ cs. rw h)
         (alone _ (receiving-keeps-right end τ f o g.at.right) (receiving-keeps-count end τ f) (receiving-keeps-good end τ f o g.at.not_bad)
@@ -297,7 +299,7 @@ module _ (end : End) (σ : Station) (socket : Socket) (m : Message) (P : Prepare
     rest : List Operation
     split : cs ≡ before ++ (receiving frame ∷ rest)
     of_cut : Memᴰ frame (message_frames id t octets)
-    delivered : (received end (after_all end τ before) frame).0 ≡ A.Delivered (length octets) t
+    delivered : (received end (after_all end τ before) frame).0 ≡ Ok (A.Delivered (length octets) t)
 
   -- one operation before
   earlier : (τ : Station) (c : Operation) (cs : List Operation) → Delivers (operate end τ c).1 cs → Delivers τ (c ∷ cs)

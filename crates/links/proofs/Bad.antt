@@ -1,5 +1,6 @@
 -- When a state isn't bad (`specs/Bad.antt`).
 use Prim.Native.Nat.{ℕ, zero, suc, ◌+◌, ◌-◌, ◌/◌, ◌%◌, ◌^◌, ◌≤◌, ◌<◌}
+use Rattle.std.specs.Prelude.{Option, Some, None}
 use native.Mathlib.Nat.{div-eq_of_lt, div-one}
 use native.Mathlib.Omega.{arith}
 use mathlib.Core.Bool.{true, false, not, false≢true}
@@ -24,11 +25,7 @@ use Rattle.links.specs.declared.Side.{Side}
 use Rattle.links.specs.declared.Side.TheVariants.{Provisioner, Device}
 use Rattle.links.specs.declared.LinkState.{LinkState}
 use Rattle.links.specs.declared.LinkState.TheVariants as S
-use Rattle.links.specs.declared.LastDelivered.{LastDelivered}
-use Rattle.links.specs.declared.LastDelivered.TheVariants as L
 use Rattle.links.specs.declared.HalfMessage.{HalfMessage}
-use Rattle.links.specs.declared.HalfReceived.{HalfReceived}
-use Rattle.links.specs.declared.HalfReceived.TheVariants as H
 use Rattle.links.specs.declared.Link.{Link}
 use Rattle.links.proofs.Marks.{all-marked-each}
 use Rattle.links.proofs.Sockets.{socket_at, place-below, socket-at, is-socket}
@@ -81,19 +78,19 @@ each-none-above n w h =
 
 -- ---- a half-received message
 
-last-other : (last : LastDelivered) (t : TransactionNumber) → is_last last t ≡ false → last ≢ L.Number t
-last-other L.Nothing t e q = let z : ◌≡◌ {A = ℕ} 0 1 = cc in absurd (omega arith)
-last-other (L.Number u) t e q = eqb-false u.0 t.0 e (ap (λ (l : LastDelivered). number_in l) q)
+last-other : (last : Option TransactionNumber) (t : TransactionNumber) → is_last last t ≡ false → last ≢ Some t
+last-other None t e q = let z : ◌≡◌ {A = ℕ} 0 1 = cc in absurd (omega arith)
+last-other (Some u) t e q = eqb-false u.0 t.0 e (ap (λ (l : Option TransactionNumber). number_in l) q)
   where
-    number_in : LastDelivered → ℕ
-    number_in L.Nothing = 0
-    number_in (L.Number v) = v.0
+    number_in : Option TransactionNumber → ℕ
+    number_in None = 0
+    number_in (Some v) = v.0
 
-pub other_last : (last : LastDelivered) (t : TransactionNumber) → last ≢ L.Number t → is_last last t ≡ false
-other_last L.Nothing t h = refl
-other_last (L.Number u) t h = ne_eqb u.0 t.0 (λ q. h (λ i. L.Number (record { 0 = q i })))
+pub other_last : (last : Option TransactionNumber) (t : TransactionNumber) → last ≢ Some t → is_last last t ≡ false
+other_last None t h = refl
+other_last (Some u) t h = ne_eqb u.0 t.0 (λ q. h (λ i. Some (record { 0 = q i })))
 
-module _ (side : Side) (last : LastDelivered) (h : HalfMessage) where
+module _ (side : Side) (last : Option TransactionNumber) (h : HalfMessage) where
   message-not-bad : good_message side last h ≡ true → MessageNotBad side last h
   message-not-bad e =
       let g = message-out side last h e in
@@ -122,13 +119,13 @@ module _ (side : Side) (last : LastDelivered) (h : HalfMessage) where
 
 -- ---- a record
 
-nothing_is : (last : LastDelivered) → is_nothing last ≡ true → last ≡ L.Nothing
-nothing_is L.Nothing e = refl
-nothing_is (L.Number t) e = absurd (false≢true e)
+nothing_is : (last : Option TransactionNumber) → is_nothing last ≡ true → last ≡ None
+nothing_is None e = refl
+nothing_is (Some t) e = absurd (false≢true e)
 
-empty-is : (half : HalfReceived) → is_empty half ≡ true → half ≡ H.Nothing
-empty-is H.Nothing e = refl
-empty-is (H.Message h) e = absurd (false≢true e)
+empty-is : (half : Option HalfMessage) → is_empty half ≡ true → half ≡ None
+empty-is None e = refl
+empty-is (Some h) e = absurd (false≢true e)
 
 -- blank by its definition and in words
 first-sent : (side : Side) → first_number side ≡ record { 0 = sends_from side }
@@ -166,8 +163,8 @@ blank-not-bad side l state id e free opening = record {
   free = free;
   opening = opening;
   next = subst (λ (m : Link). InHalf side m.next) (sym e) (first-in-half side);
-  last = λ t q. let n : l.last ≡ L.Nothing = ap (λ (m : Link). m.last) e in let z : ◌≡◌ {A = ℕ} 0 1 = cc in absurd (omega arith);
-  half = λ h q. let n : l.half ≡ H.Nothing = ap (λ (m : Link). m.half) e in let z : ◌≡◌ {A = ℕ} 0 1 = cc in absurd (omega arith);
+  last = λ t q. let n : l.last ≡ None = ap (λ (m : Link). m.last) e in let z : ◌≡◌ {A = ℕ} 0 1 = cc in absurd (omega arith);
+  half = λ h q. let n : l.half ≡ None = ap (λ (m : Link). m.half) e in let z : ◌≡◌ {A = ℕ} 0 1 = cc in absurd (omega arith);
 }
 
 by_state : (side : Side) (l : Link) (state : LinkState) → l.state ≡ state → good_as side state l ≡ true → LinkNotBad side l
@@ -189,14 +186,14 @@ by_state side l S.Open e g =
       half = λ h q. message-not-bad side l.last h (rw q at p.2);
     }
 
-last-good : (side : Side) (last : LastDelivered) → ((t : TransactionNumber) → last ≡ L.Number t → InHalf (peer side) t) → good_last side last ≡ true
-last-good side L.Nothing h = refl
-last-good side (L.Number t) h = half_in (peer side) t (h t refl)
+last-good : (side : Side) (last : Option TransactionNumber) → ((t : TransactionNumber) → last ≡ Some t → InHalf (peer side) t) → good_last side last ≡ true
+last-good side None h = refl
+last-good side (Some t) h = half_in (peer side) t (h t refl)
 
-half-good : (side : Side) (last : LastDelivered) (half : HalfReceived) → ((h : HalfMessage) → half ≡ H.Message h → MessageNotBad side last h)
+half-good : (side : Side) (last : Option TransactionNumber) (half : Option HalfMessage) → ((h : HalfMessage) → half ≡ Some h → MessageNotBad side last h)
     → good_half side last half ≡ true
-half-good side last H.Nothing b = refl
-half-good side last (H.Message h) b = not-bad-message side last h (b h refl)
+half-good side last None b = refl
+half-good side last (Some h) b = not-bad-message side last h (b h refl)
 
 pub good-by-state : (side : Side) (l : Link) (state : LinkState) → l.state ≡ state → LinkNotBad side l → good_link side l ≡ true
 good-by-state side l S.Free e b = subst (λ (m : Link). good_link side m ≡ true) (blank-said side S.Free 0 ∙ sym (b.free e)) (blank-good side)

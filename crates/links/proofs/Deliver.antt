@@ -1,5 +1,8 @@
 -- One link and the segments of one message, in any order and with any repeats.
 use Prim.Native.Nat.{ℕ, zero, suc, ◌+◌, ◌≤◌}
+use Rattle.links.specs.declared.Answer.{Answer}
+use Rattle.links.specs.declared.Refusal.{Refusal}
+use Rattle.std.specs.Prelude.{Option, Some, None, Result, Ok, Err}
 use native.Mathlib.Omega.{arith}
 use mathlib.Core.Bool.{true, false, cond, false≢true}
 use mathlib.Core.List.{List, [], ◌∷◌, ◌++◌, append-nil}
@@ -23,13 +26,8 @@ use Rattle.links.specs.Marks.{is_marked, with_mark}
 use Rattle.links.specs.Links.{is_last, Awaits, with_received}
 use Rattle.links.specs.Segments.{OneLink, entered, offered, segment_step}
 use Rattle.links.specs.Interleaving.{All, state_after}
-use Rattle.links.specs.declared.LastDelivered.{LastDelivered}
-use Rattle.links.specs.declared.LastDelivered.TheVariants as L
 use Rattle.links.specs.declared.HalfMessage.{HalfMessage}
-use Rattle.links.specs.declared.HalfReceived.{HalfReceived}
-use Rattle.links.specs.declared.HalfReceived.TheVariants as H
 use Rattle.links.specs.declared.Refusal.TheVariants as R
-use Rattle.links.specs.declared.Answer.{Answer}
 use Rattle.links.specs.declared.Answer.TheVariants as A
 use Rattle.links.proofs.Marks.{marked-same, marked_other, none-marked}
 use Rattle.links.proofs.Come.{since_start, has, complete, push, since-start-snoc, has-snoc, complete-nil, complete-mono, has-of-complete, all-complete, complete-cong, has-again}
@@ -72,10 +70,10 @@ module _ (m : List ℕ) (t : TransactionNumber) where
 
   -- l: what has come since the first Start
   pub data Inv (l : List ℕ) (x : OneLink) : Type 0 where
-    fresh : l ≡ [] → Awaits x.link.last t → x.link.half ≡ H.Nothing → length m ≤ length x.part → Inv l x
+    fresh : l ≡ [] → Awaits x.link.last t → x.link.half ≡ None → length m ≤ length x.part → Inv l x
     going : (q : List ℕ) → l ≡ 0 ∷ q → complete (seg_n (length m)) l ≡ false → Awaits x.link.last t
-        → (marks : ℕ) → x.link.half ≡ H.Message (half_of marks) → Held l marks x.part → Inv l x
-    done : complete (seg_n (length m)) l ≡ true → x.link.last ≡ L.Number t → x.link.half ≡ H.Nothing → take (length m) x.part ≡ m → Inv l x
+        → (marks : ℕ) → x.link.half ≡ Some (half_of marks) → Held l marks x.part → Inv l x
+    done : complete (seg_n (length m)) l ≡ true → x.link.last ≡ Some t → x.link.half ≡ None → take (length m) x.part ≡ m → Inv l x
 
   -- it hangs on the last delivered number, what is half-received and the part alone
   pub inv-same : (l : List ℕ) (x y : OneLink) → y.link.last ≡ x.link.last → y.link.half ≡ x.link.half → y.part ≡ x.part → Inv l x → Inv l y
@@ -84,12 +82,12 @@ module _ (m : List ℕ) (t : TransactionNumber) where
   inv-same l x y a b c (done n w h t) = done n (a ∙ w) (b ∙ h) (rw c t)
 
   -- the answer to segment k after l
-  abbrev pub answer_to : List ℕ → ℕ → Answer
+  abbrev pub answer_to : List ℕ → ℕ → Result Answer Refusal
   answer_to l k =
-      cond (complete (seg_n (length m)) l) A.AcknowledgeAgain
-      (cond (has k l) A.Repeat
-      (cond (complete (seg_n (length m)) (push l k)) (A.Delivered (length m) t)
-      (cond (has k (push l k)) A.Kept (A.Refused R.NotBegun))))
+      cond (complete (seg_n (length m)) l) (Ok A.AcknowledgeAgain)
+      (cond (has k l) (Ok A.Repeat)
+      (cond (complete (seg_n (length m)) (push l k)) (Ok (A.Delivered (length m) t))
+      (cond (has k (push l k)) (Ok A.Kept) (Err R.NotBegun))))
 
   module _ (some : 1 ≤ length m) where
     -- a new segment
@@ -110,7 +108,7 @@ module _ (m : List ℕ) (t : TransactionNumber) where
             ∙ held.octets j b (rw e at (sym (new j) ∙ h)));
       }
 
-      enter : ((entered x (half_of marks) k (segment m k)).0 ≡ cond (complete (seg_n (length m)) (0 ∷ q)) (A.Delivered (length m) t) A.Kept)
+      enter : ((entered x (half_of marks) k (segment m k)).0 ≡ cond (complete (seg_n (length m)) (0 ∷ q)) (Ok (A.Delivered (length m) t)) (Ok A.Kept))
           × Inv (0 ∷ q) (entered x (half_of marks) k (segment m k)).1
       unfolding entered
       enter =
@@ -121,7 +119,7 @@ module _ (m : List ℕ) (t : TransactionNumber) where
           (λ e. rw (ac, e) (refl, going q refl e awaits (with_mark marks k) refl held_next))
 
     offer : (x : OneLink) (q : List ℕ) (marks : ℕ) (k : ℕ) → k ≤ seg_n (length m) → complete (seg_n (length m)) (0 ∷ q) ≡ false
-        → Awaits x.link.last t → x.link.half ≡ H.Message (half_of marks) → Held (0 ∷ q) marks x.part
+        → Awaits x.link.last t → x.link.half ≡ Some (half_of marks) → Held (0 ∷ q) marks x.part
         → ((offered x (half_of marks) k (segment m k)).0 ≡ answer_to (0 ∷ q) k) × Inv (0 ∷ (q ++ (k ∷ []))) (offered x (half_of marks) k (segment m k)).1
     unfolding offered
     offer x q marks k inside nc awaits hh held =
@@ -140,28 +138,28 @@ module _ (m : List ℕ) (t : TransactionNumber) where
     none-held p room = record { room = room; mark = λ j b. none-marked j; octets = λ j b g. absurd (false≢true g) }
 
     -- a link whose half-received message is known, written out
-    abbrev holding : OneLink → HalfReceived → OneLink
+    abbrev holding : OneLink → Option HalfMessage → OneLink
     holding x half = record { link = with_received x.link x.link.last half; part = x.part }
 
     pub step-inv : (l : List ℕ) (x : OneLink) (k : ℕ) → k ≤ seg_n (length m) → Inv l x
         → ((segment_step x t (header_of m k) (segment m k)).0 ≡ answer_to l k) × Inv (push l k) (segment_step x t (header_of m k) (segment m k)).1
     unfolding segment_step header_of
     step-inv l x zero inside (fresh el awaits hh room) =
-        rw (el, awaits.not_last, hh, complete-nil (seg_n (length m))) (enter (holding x H.Nothing) [] 0 0 [] inside (none-held x.part room) awaits (λ j. refl))
+        rw (el, awaits.not_last, hh, complete-nil (seg_n (length m))) (enter (holding x None) [] 0 0 [] inside (none-held x.part room) awaits (λ j. refl))
     step-inv l x (suc k) inside (fresh el awaits hh room) =
         rw (el, awaits.not_last, hh, complete-nil (seg_n (length m))) (refl, fresh refl awaits refl room)
     step-inv l x zero inside (going q el nc awaits marks hh held) =
         rw (el, awaits.not_last, hh, eq-eqb t.0 t.0 refl, eq-eqb (length m) (length m) refl, eq-eqb (check_octet m) (check_octet m) refl)
-        (offer (holding x (H.Message (half_of marks))) q marks 0 inside (rw el at nc) awaits refl (rw el at held))
+        (offer (holding x (Some (half_of marks))) q marks 0 inside (rw el at nc) awaits refl (rw el at held))
     step-inv l x (suc k) inside (going q el nc awaits marks hh held) =
         rw (el, awaits.not_last, hh, eq-eqb t.0 t.0 refl)
-        (offer (holding x (H.Message (half_of marks))) q marks (suc k) inside (rw el at nc) awaits refl (rw el at held))
+        (offer (holding x (Some (half_of marks))) q marks (suc k) inside (rw el at nc) awaits refl (rw el at held))
     step-inv l x k inside (done c last hn w) =
-        let a : is_last x.link.last t ≡ true = ap (λ (o : LastDelivered). is_last o t) last ∙ eq-eqb t.0 t.0 refl in
+        let a : is_last x.link.last t ≡ true = ap (λ (o : Option TransactionNumber). is_last o t) last ∙ eq-eqb t.0 t.0 refl in
         rw (a, c) (refl, done (complete-mono (seg_n (length m)) l k c) last hn w)
 
     -- one segment of the message at the link
-    abbrev pub one : OneLink → ℕ → Answer × OneLink
+    abbrev pub one : OneLink → ℕ → Result Answer Refusal × OneLink
     one x k = segment_step x t (header_of m k) (segment m k)
 
     runs : (a b : List ℕ) (x : OneLink) → All (λ k. k ≤ seg_n (length m)) b → Inv (since_start a) x → Inv (since_start (a ++ b)) (state_after one x b)
@@ -175,7 +173,7 @@ module _ (m : List ℕ) (t : TransactionNumber) where
     inv-stands l x c (going _ _ f _ _ _ _) = absurd (false≢true (sym f ∙ c))
     inv-stands l x c (done _ _ _ w) = w
 
-    module _ (x : OneLink) (awaits : Awaits x.link.last t) (nothing : x.link.half ≡ H.Nothing) (room : length m ≤ length x.part) where
+    module _ (x : OneLink) (awaits : Awaits x.link.last t) (nothing : x.link.half ≡ None) (room : length m ≤ length x.part) where
       -- ONE LINK: every answer, for any segments of the message in any order and with any repeats
       pub one_answer : (pre : List ℕ) → All (λ k. k ≤ seg_n (length m)) pre → (k : ℕ) → k ≤ seg_n (length m)
           → (one (state_after one x pre) k).0 ≡ answer_to (since_start pre) k

@@ -1,5 +1,8 @@
 -- Demand 3: any number of open links, one message each, any mixture of right segments.
 use Prim.Native.Nat.{ℕ, ◌+◌, ◌*◌, ◌-◌, ◌≤◌, ◌<◌}
+use Rattle.links.specs.declared.Answer.{Answer}
+use Rattle.links.specs.declared.Refusal.{Refusal}
+use Rattle.std.specs.Prelude.{Some, None, Result, Ok, Err}
 use native.Mathlib.Omega.{arith}
 use mathlib.Core.Bool.{Bool, true, false, cond, false≢true}
 use mathlib.Core.List.Memᴰ
@@ -23,10 +26,7 @@ use Rattle.links.specs.Station.{Station, no_link, get_link, put_link, of_socket,
 use Rattle.links.specs.Interleaving.{keep_if, with_key, All, state_after}
 use Rattle.links.specs.Demand3.{Message, Call, call_place, frames_for, Ready, cut_at, link_of, Premises, Right, AllCome, First, delivery, called, after, answer, Claim, Demand3}
 use Rattle.links.specs.declared.LinkState.TheVariants as S
-use Rattle.links.specs.declared.HalfReceived.TheVariants as H
-use Rattle.links.specs.declared.Found.TheVariants.{At}
 use Rattle.links.specs.declared.Refusal.TheVariants as R
-use Rattle.links.specs.declared.Answer.{Answer}
 use Rattle.links.specs.declared.Answer.TheVariants as A
 use Rattle.links.proofs.Interleaving.{with-key-append, Parts, after-ok, part-after-calls, mixture}
 use Rattle.links.proofs.Come.{since_start, Each, has, complete, push, since-start-snoc, has-again, complete-cong, each-complete, complete-each, complete-later, push-has}
@@ -81,7 +81,7 @@ module _ (end : End) (σ₀ : Station) (message : Socket → Message) (P : Premi
   -- ---- a right call is a step of its own link
 
   -- what holds of the station all along
-  record Ok (σ : Station) : Type 0 where
+  record Sound (σ : Station) : Type 0 where
     count : length σ.links ≡ length σ₀.links
     room : length σ.area ≡ 1469 * length σ₀.links
     not_bad : good (side_of end) σ.links ≡ true
@@ -89,17 +89,17 @@ module _ (end : End) (σ₀ : Station) (message : Socket → Message) (P : Premi
     ids : (s : ℕ) → s < length σ₀.links → (get_link s σ).link.id ≡ id_at s
 
   -- segment k of the message of place s, at its link
-  abbrev one_segment : ℕ → OneLink → ℕ → Answer × OneLink
+  abbrev one_segment : ℕ → OneLink → ℕ → Result Answer Refusal × OneLink
   one_segment s x k = segment_step x (message_at s).number (header_of (octets_at s) k) (segment (octets_at s) k)
 
   -- a call at its link
-  abbrev at_link : OneLink → Call → Answer × OneLink
+  abbrev at_link : OneLink → Call → Result Answer Refusal × OneLink
   at_link x c = one_segment (call_place c) x (index_at c.frame)
 
-  abbrev step : Station → Call → Answer × Station
+  abbrev step : Station → Call → Result Answer Refusal × Station
   step = called σ₀ message (received end)
 
-  open_at : (σ : Station) → Ok σ → (s : ℕ) → s < length σ₀.links → OpenAt end σ s (id_at s)
+  open_at : (σ : Station) → Sound σ → (s : ℕ) → s < length σ₀.links → OpenAt end σ s (id_at s)
   open_at σ o s b = record {
     right = right-as end σ₀ σ o.count (o.room ∙ sym (right-sized end σ₀ P.right)) P.right;
     not_bad = o.not_bad;
@@ -108,7 +108,7 @@ module _ (end : End) (σ₀ : Station) (message : Socket → Message) (P : Premi
     has_id = o.ids s b;
   }
 
-  module _ (σ : Station) (c : Call) (o : Ok σ) (r : RightAt c) where
+  module _ (σ : Station) (c : Call) (o : Sound σ) (r : RightAt c) where
     abbrev place : ℕ
     place = call_place c
 
@@ -130,7 +130,7 @@ module _ (end : End) (σ₀ : Station) (message : Socket → Message) (P : Premi
     next-other : (j : ℕ) → place ≢ j → get_link j (step σ c).1 ≡ get_link j σ
     next-other = other end σ place _ open-here (message_at place).number (octets_at place) (index_at c.frame) asked ready-here.number c.frame r.frame
 
-    next-ok : Ok (step σ c).1
+    next-ok : Sound (step σ c).1
     next-ok =
         let z = stays end σ place _ open-here (message_at place).number (octets_at place) (index_at c.frame) asked ready-here.number c.frame r.frame in
         let n = count end σ place _ open-here (message_at place).number (octets_at place) (index_at c.frame) asked ready-here.number c.frame r.frame ∙ o.count in
@@ -144,26 +144,26 @@ module _ (end : End) (σ₀ : Station) (message : Socket → Message) (P : Premi
               (λ e. rw (← (eqb-true place j e)) z.has_id) (λ e. rw (next-other j (eqb-false place j e)) (o.ids j b));
         }
 
-  parts : Parts call_place step (length σ₀.links) get_link at_link Ok RightAt
+  parts : Parts call_place step (length σ₀.links) get_link at_link Sound RightAt
   parts = record {
     below = λ c r. r.place;
     ok = next-ok;
-    answer = λ σ c o r. ap (λ (p : Answer × Station). p.0) (goes_at σ c o r);
+    answer = λ σ c o r. ap (λ (p : Result Answer Refusal × Station). p.0) (goes_at σ c o r);
     same = next-same;
     other = λ σ c j o r h. next-other σ c o r j h;
     ext = λ σ τ o p h. station-ext (length σ₀.links) σ τ o.count o.room p.count p.room h;
   }
 
-  starts : Ok σ₀
+  starts : Sound σ₀
   unfolding get_link
   starts = record { count = refl; room = right-sized end σ₀ P.right; not_bad = P.not_bad; is_open = λ s b. (ready_at s b).is_open; ids = λ s b. refl }
 
-  ok-after : (cs : List Call) → All RightAt cs → Ok (state_after step σ₀ cs)
-  ok-after cs r = after-ok call_place step (length σ₀.links) get_link at_link Ok RightAt parts σ₀ cs starts r
+  ok-after : (cs : List Call) → All RightAt cs → Sound (state_after step σ₀ cs)
+  ok-after cs r = after-ok call_place step (length σ₀.links) get_link at_link Sound RightAt parts σ₀ cs starts r
 
   -- after any right calls, a link's Link ID still finds its socket
   pub found_after : (cs : List Call) → All (Right σ₀ message) cs → (s : Socket) → is_socket s (length σ₀.links) ≡ true
-      → find (after σ₀ message (received end) cs).links (link_of σ₀ message s).id ≡ At (socket_place s)
+      → find (after σ₀ message (received end) cs).links (link_of σ₀ message s).id ≡ Some (socket_place s)
   found_after cs r s b = found end _ (socket_place s) _ (open_at _ (ok-after cs (all-at cs r)) (socket_place s) (place-below s (length σ₀.links) b))
 
   -- ---- a link's own calls, as the numbers of their segments
@@ -190,14 +190,14 @@ module _ (end : End) (σ₀ : Station) (message : Socket → Message) (P : Premi
 
   -- the link of place s after any calls
   link-after : (s : ℕ) (cs : List Call) → All RightAt cs → get_link s (state_after step σ₀ cs) ≡ state_after (one_segment s) (get_link s σ₀) (segments_at s cs)
-  link-after s cs r = part-after-calls call_place step (length σ₀.links) get_link at_link Ok RightAt parts s σ₀ cs starts r ∙ own s cs (get_link s σ₀)
+  link-after s cs r = part-after-calls call_place step (length σ₀.links) get_link at_link Sound RightAt parts s σ₀ cs starts r ∙ own s cs (get_link s σ₀)
 
   module _ (s : ℕ) (b : s < length σ₀.links) where
     awaits : Awaits (get_link s σ₀).link.last (message_at s).number
     unfolding get_link
     awaits = (ready_at s b).awaited
 
-    nothing : (get_link s σ₀).link.half ≡ H.Nothing
+    nothing : (get_link s σ₀).link.half ≡ None
     unfolding get_link
     nothing = (ready_at s b).nothing
 
@@ -263,7 +263,7 @@ module _ (end : End) (σ₀ : Station) (message : Socket → Message) (P : Premi
 -- ---- when the answer is a delivery
 
 four : (p q r w : Bool) (n : ℕ) (t : TransactionNumber) (a : ℕ) (b : TransactionNumber)
-    → cond p A.AcknowledgeAgain (cond q A.Repeat (cond r (A.Delivered n t) (cond w A.Kept (A.Refused R.NotBegun)))) ≡ A.Delivered a b → (r ≡ true) × (p ≡ false)
+    → cond p (Ok A.AcknowledgeAgain) (cond q (Ok A.Repeat) (cond r (Ok (A.Delivered n t)) (cond w (Ok A.Kept) (Err R.NotBegun)))) ≡ Ok (A.Delivered a b) → (r ≡ true) × (p ≡ false)
 four true q r w n t a b e = (cc, cc)
 four false true r w n t a b e = (cc, cc)
 four false false true w n t a b e = (refl, refl)
@@ -271,14 +271,14 @@ four false false false true n t a b e = (cc, cc)
 four false false false false n t a b e = (cc, cc)
 
 module _ (m : List ℕ) (t : TransactionNumber) (pre : List ℕ) (k : ℕ) where
-  delivery-out : (n : ℕ) (u : TransactionNumber) → answer_to m t (since_start pre) k ≡ A.Delivered n u
+  delivery-out : (n : ℕ) (u : TransactionNumber) → answer_to m t (since_start pre) k ≡ Ok (A.Delivered n u)
       → (complete (seg_n (length m)) (since_start (pre ++ (k ∷ []))) ≡ true) × (complete (seg_n (length m)) (since_start pre) ≡ false)
   delivery-out n u e =
       let f = four (complete (seg_n (length m)) (since_start pre)) (has k (since_start pre)) (complete (seg_n (length m)) (push (since_start pre) k)) (has k (push (since_start pre) k)) (length m) t n u e in
       (rw (since-start-snoc pre k) f.0, f.1)
 
   pub delivery-in : complete (seg_n (length m)) (since_start (pre ++ (k ∷ []))) ≡ true → complete (seg_n (length m)) (since_start pre) ≡ false
-      → answer_to m t (since_start pre) k ≡ A.Delivered (length m) t
+      → answer_to m t (since_start pre) k ≡ Ok (A.Delivered (length m) t)
   delivery-in c nc =
       let c' = rw (since-start-snoc pre k) at c in
       cases (has k (since_start pre))
@@ -375,7 +375,7 @@ module _ (end : End) (σ : Station) (message : Socket → Message) (P : Premises
 
   the-claim : (cs : List Call) → All (Right σ message) cs → Claim σ message (received end) cs
   the-claim cs r =
-      let m = mixture call_place (step end σ message P) (length σ.links) get_link (at_link end σ message P) (Ok end σ message P) (RightAt end σ message P) (parts end σ message P) σ cs (starts end σ message P) (all-at end σ message P cs r) in
+      let m = mixture call_place (step end σ message P) (length σ.links) get_link (at_link end σ message P) (Sound end σ message P) (RightAt end σ message P) (parts end σ message P) σ cs (starts end σ message P) (all-at end σ message P cs r) in
       record {
         due = λ pre c post e. due-here pre c post (rw e at r);
         only_then = λ pre c post e. only_here pre c post (rw e at r);

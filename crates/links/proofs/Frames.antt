@@ -1,5 +1,8 @@
 -- The frames of a cut, their segments by number, and the link that a frame is for.
 use Prim.Native.Nat.{ℕ, zero, suc, ◌+◌, ◌*◌, ◌-◌, ◌%◌, ◌<◌}
+use Rattle.pb_adv.specs.declared.Frame.{Frame}
+use Rattle.pb_adv.specs.declared.FrameRefusal.{FrameRefusal}
+use Rattle.std.specs.Prelude.{Some, Result}
 use native.Mathlib.Omega.{arith}
 use mathlib.Core.Bool.{false, cond, false≢true}
 use mathlib.Core.List.Memᴰ
@@ -16,7 +19,6 @@ use Rattle.transactions.specs.Segments.{seg_n}
 use Rattle.transactions.specs.declared.TransactionNumber.{TransactionNumber}
 use Rattle.pb_adv.specs.Frame.{link_id, high_bits, parsed, segment_octets}
 use Rattle.pb_adv.specs.Tables.{is_kind}
-use Rattle.pb_adv.specs.declared.Parsed.{Parsed}
 use Rattle.pb_adv.proofs.Promises.{id-back}
 use Rattle.pb_adv.proofs.Tables.{IsFrame, start, acknowledgement, continuation, opens, acks, closes, Reads, no-frame, unknown, frame, reads}
 use Rattle.pb_adv_writing.specs.Writing.{header_of, segment_frame, message_frames}
@@ -27,7 +29,6 @@ use Rattle.links.specs.Demand3.{since_start as frames_since, AllAmong}
 use Rattle.links.specs.Demand2.{is_other}
 use Rattle.links.specs.Tables.{place_for}
 use Rattle.links.specs.declared.Link.{Link}
-use Rattle.links.specs.declared.Found.TheVariants.{At}
 use Rattle.links.proofs.Come.{since_start, Each}
 use Rattle.links.proofs.Lens.{found_at}
 
@@ -114,7 +115,7 @@ module _ (id : ℕ) (t : TransactionNumber) (m : List ℕ) (fs : List (List ℕ)
 -- ---- whose a frame is
 
 -- the link that a Link ID finds has it
-pub found-id : (σ : Station) (s id : ℕ) → find σ.links id ≡ At s → id ≡ (get_link s σ).link.id
+pub found-id : (σ : Station) (s id : ℕ) → find σ.links id ≡ Some s → id ≡ (get_link s σ).link.id
 unfolding get_link
 found-id σ s id e =
     let l = get_or σ.links s no_link in
@@ -127,10 +128,10 @@ frame-id id t m zero = id-back id
 frame-id id t m (suc k) = id-back id
 
 -- a segment or a Close is for the record that its Link ID finds
-pub whose : (end : End) (ls : List Link) (f : List ℕ) (s : ℕ) → is_other (parsed f) ≡ false → addressed end ls (parsed f) ≡ At s → find ls (link_id f) ≡ At s
+pub whose : (end : End) (ls : List Link) (f : List ℕ) (s : ℕ) → is_other (parsed f) ≡ false → addressed end ls (parsed f) ≡ Some s → find ls (link_id f) ≡ Some s
 whose end ls f s = of (parsed f) (reads f)
   where
-    by-frame : (p : Parsed) → IsFrame f p → is_other p ≡ false → addressed end ls p ≡ At s → find ls (link_id f) ≡ At s
+    by-frame : (p : Result Frame FrameRefusal) → IsFrame f p → is_other p ≡ false → addressed end ls p ≡ Some s → find ls (link_id f) ≡ Some s
     by-frame p (start k e) o h = h
     by-frame p (acknowledgement k) o h = h
     by-frame p (continuation k e) o h = h
@@ -138,16 +139,16 @@ whose end ls f s = of (parsed f) (reads f)
     by-frame p (acks k e) o h = h
     by-frame p (closes k e) o h = h
 
-    of : (p : Parsed) → Reads f p → is_other p ≡ false → addressed end ls p ≡ At s → find ls (link_id f) ≡ At s
+    of : (p : Result Frame FrameRefusal) → Reads f p → is_other p ≡ false → addressed end ls p ≡ Some s → find ls (link_id f) ≡ Some s
     of p (no-frame m) o h = cc
     of p (unknown m n) o h = cc
     of p (frame m n r) o h = by-frame p r o h
 
 -- the record that a frame is for is the one that it is judged by
-pub place-for : (end : End) (ls : List Link) (f : List ℕ) (s : ℕ) → addressed end ls (parsed f) ≡ At s → place_for end ls f ≡ At s
+pub place-for : (end : End) (ls : List Link) (f : List ℕ) (s : ℕ) → addressed end ls (parsed f) ≡ Some s → place_for end ls f ≡ Some s
 place-for end ls f s = of end (parsed f) (reads f)
   where
-    by-frame : (end : End) (p : Parsed) → IsFrame f p → addressed end ls p ≡ At s → place_for end ls f ≡ At s
+    by-frame : (end : End) (p : Result Frame FrameRefusal) → IsFrame f p → addressed end ls p ≡ Some s → place_for end ls f ≡ Some s
     by-frame provisioner p (start k e) h = h
     by-frame provisioner p (acknowledgement k) h = h
     by-frame provisioner p (continuation k e) h = h
@@ -161,7 +162,7 @@ place-for end ls f s = of end (parsed f) (reads f)
     by-frame (device own) p (acks k e) h = rw (k, e) h
     by-frame (device own) p (closes k e) h = rw (k, e) h
 
-    of : (end : End) (p : Parsed) → Reads f p → addressed end ls p ≡ At s → place_for end ls f ≡ At s
+    of : (end : End) (p : Result Frame FrameRefusal) → Reads f p → addressed end ls p ≡ Some s → place_for end ls f ≡ Some s
     of end p (no-frame m) h = cc
     of end p (unknown m n) h = cc
     of end p (frame m n i) h = by-frame end p i h

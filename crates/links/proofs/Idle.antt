@@ -1,5 +1,6 @@
 -- The four idle programs (`specs/Idle.antt`), at a station of one open link.
 use Prim.Native.Nat.{ℕ, zero, suc, ◌≤◌}
+use Rattle.std.specs.Prelude.{None}
 use native.Mathlib.Omega.{arith}
 use mathlib.Core.Bool.{Bool, true, false, ◌&&◌}
 use mathlib.Core.List.Memᴰ
@@ -33,15 +34,13 @@ use Rattle.links.specs.Tables.{receiving_rows, ReceivingTable}
 use Rattle.links.specs.Idle.{RefusesAll, AlwaysRepeats, StoresNothing, ServesFirst, IdlePrograms}
 use Rattle.links.specs.declared.Side.TheVariants.{Provisioner}
 use Rattle.links.specs.declared.LinkState.TheVariants as S
-use Rattle.links.specs.declared.LastDelivered.TheVariants as L
-use Rattle.links.specs.declared.HalfReceived.TheVariants as H
 use Rattle.links.specs.declared.Link.{Link}
 use Rattle.links.proofs.Sockets.{place-below}
 
 -- ---- one open link, and an area of zeros
 
 abbrev link : Link
-link = record { state = S.Open; id = 0; next = record { 0 = 0 }; outstanding = false; last = L.Nothing; half = H.Nothing }
+link = record { state = S.Open; id = 0; next = record { 0 = 0 }; outstanding = false; last = None; half = None }
 
 abbrev station : Station
 station = record { links = link ∷ []; area = replicate 1469 0 }

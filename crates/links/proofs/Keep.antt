@@ -1,5 +1,8 @@
 -- A frame leaves a good link good.
 use Prim.Native.Nat.{ℕ, ◌/◌, ◌≤◌}
+use Rattle.pb_adv.specs.declared.Frame.{Frame}
+use Rattle.pb_adv.specs.declared.FrameRefusal.{FrameRefusal}
+use Rattle.std.specs.Prelude.{Option, Some, None, Result, Ok, Err}
 use native.Mathlib.Omega.{arith}
 use mathlib.Core.Bool.{true, false, ◌&&◌, not, false≢true}
 use mathlib.Core.List.{List}
@@ -22,8 +25,7 @@ use Rattle.transactions.proofs.Laws.{segment-begins}
 use Rattle.pb_adv.proofs.Promises.{segments-are-encodings}
 use Rattle.transactions.specs.declared.TransactionNumber.{TransactionNumber}
 use Rattle.pb_adv.specs.declared.SegmentHeader.{SegmentHeader}
-use Rattle.pb_adv.specs.declared.Parsed.{Parsed}
-use Rattle.pb_adv.specs.declared.Parsed.TheVariants as P
+use Rattle.pb_adv.specs.declared.Frame.TheVariants as P
 use Rattle.links.specs.Marks.{is_marked, with_mark, all_marked, none_above}
 use Rattle.links.specs.Links.{peer, sends, is_last, blank, with_state, with_sending, in_use}
 use Rattle.links.specs.Good.{good_message, good_half, good_last, is_nothing, is_empty, good_as, good_link}
@@ -33,18 +35,14 @@ use Rattle.links.specs.declared.Side.{Side}
 use Rattle.links.specs.declared.Side.TheVariants.{Provisioner, Device}
 use Rattle.links.specs.declared.LinkState.{LinkState}
 use Rattle.links.specs.declared.LinkState.TheVariants as S
-use Rattle.links.specs.declared.LastDelivered.{LastDelivered}
-use Rattle.links.specs.declared.LastDelivered.TheVariants as L
 use Rattle.links.specs.declared.HalfMessage.{HalfMessage}
-use Rattle.links.specs.declared.HalfReceived.{HalfReceived}
-use Rattle.links.specs.declared.HalfReceived.TheVariants as H
 use Rattle.links.specs.declared.Link.{Link}
 use Rattle.links.proofs.Marks.{marked-same, marked_other, none-above-zero, none-above-mark}
 use Rattle.links.proofs.Lens.{InPlace, same_use, unused}
 use Rattle.links.proofs.View.{View, as_it_was, new, Origin, held, begins, view}
 
 -- what the test of a half-received message says, by name
-pub record GoodMessage (side : Side) (last : LastDelivered) (h : HalfMessage) : Type 0 where
+pub record GoodMessage (side : Side) (last : Option TransactionNumber) (h : HalfMessage) : Type 0 where
   pub number : sends (peer side) h.number ≡ true
   pub some-octets : 1 ≤ h.length
   pub few-octets : h.length ≤ 1469
@@ -53,12 +51,12 @@ pub record GoodMessage (side : Side) (last : LastDelivered) (h : HalfMessage) : 
   pub missing : all_marked (seg_n h.length) h.marks ≡ false
   pub above : none_above (seg_n h.length) h.marks ≡ true
 
-pub message-in : (side : Side) (last : LastDelivered) (h : HalfMessage) → GoodMessage side last h → good_message side last h ≡ true
+pub message-in : (side : Side) (last : Option TransactionNumber) (h : HalfMessage) → GoodMessage side last h → good_message side last h ≡ true
 unfolding good_message
 message-in side last h g =
     rw (g.number, le-leb 1 h.length g.some-octets, le-leb h.length 1469 g.few-octets, g.other, g.first, g.missing, g.above)
 
-pub message-out : (side : Side) (last : LastDelivered) (h : HalfMessage) → good_message side last h ≡ true → GoodMessage side last h
+pub message-out : (side : Side) (last : Option TransactionNumber) (h : HalfMessage) → good_message side last h ≡ true → GoodMessage side last h
 unfolding good_message
 message-out side last h e =
     let p = both_hold e in
@@ -88,7 +86,7 @@ pub record Keeps (side : Side) (x y : OneLink) : Type 0 where
   pub part : length y.part ≡ length x.part
 
 -- a half-received message, good but for its marks, which may be none
-record Receives (side : Side) (last : LastDelivered) (h : HalfMessage) (k : ℕ) : Type 0 where
+record Receives (side : Side) (last : Option TransactionNumber) (h : HalfMessage) (k : ℕ) : Type 0 where
   number : sends (peer side) h.number ≡ true
   some-octets : 1 ≤ h.length
   few-octets : h.length ≤ 1469
@@ -195,13 +193,13 @@ opened-good Provisioner l h =
     let e : l.next.0 / 128 ≡ 0 = omega (arith, eqb-true l.next.0 0 p.0) in
     open_in Provisioner (with_state l S.Open) refl (eq-eqb (l.next.0 / 128) 0 e) (nothing-good l.last r.0) (empty-good l.last l.half r.1)
   where
-    nothing-good : (last : LastDelivered) → is_nothing last ≡ true → good_last Provisioner last ≡ true
-    nothing-good L.Nothing e = refl
-    nothing-good (L.Number t) e = absurd (false≢true e)
+    nothing-good : (last : Option TransactionNumber) → is_nothing last ≡ true → good_last Provisioner last ≡ true
+    nothing-good None e = refl
+    nothing-good (Some t) e = absurd (false≢true e)
 
-    empty-good : (last : LastDelivered) (half : HalfReceived) → is_empty half ≡ true → good_half Provisioner last half ≡ true
-    empty-good last H.Nothing e = refl
-    empty-good last (H.Message h) e = absurd (false≢true e)
+    empty-good : (last : Option TransactionNumber) (half : Option HalfMessage) → is_empty half ≡ true → good_half Provisioner last half ≡ true
+    empty-good last None e = refl
+    empty-good last (Some h) e = absurd (false≢true e)
 opened-good Device l h = absurd (false≢true h)
 
 after-sent : (side : Side) (t : TransactionNumber) → sends side t ≡ true → sends side (number_after t) ≡ true
@@ -248,30 +246,30 @@ module _ (side : Side) (x : OneLink) (link_good : good_link side x.link ≡ true
         }))
         (λ e. rw e unchanged)
 
-  by_state : (state : LinkState) → x.link.state ≡ state → (f : List ℕ) → Octets f → (p : Parsed) → parsed f ≡ p → FrameKeeps side x (frame_step side x state f p).1
+  by_state : (state : LinkState) → x.link.state ≡ state → (f : List ℕ) → Octets f → (p : Result Frame FrameRefusal) → parsed f ≡ p → FrameKeeps side x (frame_step side x state f p).1
   unfolding frame_step
   by_state S.Free e f o p q = unchanged
-  by_state S.Opening e f o (P.Segment s) q = unchanged
-  by_state S.Opening e f o (P.Acknowledgement id t) q = unchanged
-  by_state S.Opening e f o (P.Open id uuid) q = unchanged
-  by_state S.Opening e f o (P.Ack id) q =
+  by_state S.Opening e f o (Ok (P.Segment s)) q = unchanged
+  by_state S.Opening e f o (Ok (P.Acknowledgement id t)) q = unchanged
+  by_state S.Opening e f o (Ok (P.Open id uuid)) q = unchanged
+  by_state S.Opening e f o (Ok (P.Ack id)) q =
       record {
         link = opened-good side x.link (good-as side x.link e link_good);
         part = room;
         in_place = same_use (sym (ap in_use e)) refl;
       }
-  by_state S.Opening e f o (P.Close id reason) q = freed
-  by_state S.Opening e f o (P.Refused r) q = unchanged
-  by_state S.Open e f o (P.Segment s) q =
+  by_state S.Opening e f o (Ok (P.Close id reason)) q = freed
+  by_state S.Opening e f o (Err r) q = unchanged
+  by_state S.Open e f o (Ok (P.Segment s)) q =
       let c = segments-are-encodings f o s q in
       cases (sends (peer side) s.number)
       (λ u. rw u (segment-keeps e s.number s.header (part f s.from s.count) (rw c.long c.fits) u))
       (λ u. rw u unchanged)
-  by_state S.Open e f o (P.Acknowledgement id t) q = cases (sends side t) (λ u. rw u (acknowledgement-keeps e t u)) (λ u. rw u unchanged)
-  by_state S.Open e f o (P.Open id uuid) q = unchanged
-  by_state S.Open e f o (P.Ack id) q = rw (ack-same side x) unchanged
-  by_state S.Open e f o (P.Close id reason) q = freed
-  by_state S.Open e f o (P.Refused r) q = unchanged
+  by_state S.Open e f o (Ok (P.Acknowledgement id t)) q = cases (sends side t) (λ u. rw u (acknowledgement-keeps e t u)) (λ u. rw u unchanged)
+  by_state S.Open e f o (Ok (P.Open id uuid)) q = unchanged
+  by_state S.Open e f o (Ok (P.Ack id)) q = rw (ack-same side x) unchanged
+  by_state S.Open e f o (Ok (P.Close id reason)) q = freed
+  by_state S.Open e f o (Err r) q = unchanged
 
-  pub frame-keeps : (f : List ℕ) → Octets f → (p : Parsed) → parsed f ≡ p → FrameKeeps side x (frame_step side x x.link.state f p).1
+  pub frame-keeps : (f : List ℕ) → Octets f → (p : Result Frame FrameRefusal) → parsed f ≡ p → FrameKeeps side x (frame_step side x x.link.state f p).1
   frame-keeps f o p q = by_state x.link.state refl f o p q

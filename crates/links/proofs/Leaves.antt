@@ -1,5 +1,10 @@
 -- What each answer of the receiving call leaves of its link (`specs/Tables.antt`).
 use Prim.Native.Nat.{ℕ, ◌-◌}
+use Rattle.links.specs.declared.Answer.{Answer}
+use Rattle.links.specs.declared.Refusal.{Refusal}
+use Rattle.pb_adv.specs.declared.Frame.{Frame}
+use Rattle.pb_adv.specs.declared.FrameRefusal.{FrameRefusal}
+use Rattle.std.specs.Prelude.{Option, Some, None, Result, Err}
 use mathlib.Core.Bool.{true, false, ◌&&◌, cond, false≢true}
 use mathlib.Core.List.{List}
 use mathlib.Core.Path.{◌≡◌, refl, sym, ap}
@@ -16,7 +21,6 @@ use Rattle.pb_adv.specs.Frame.{link_id, number_of, kind_of, high_bits}
 use Rattle.pb_adv.specs.Tables.{length_in}
 use Rattle.pb_adv.specs.declared.SegmentHeader.{SegmentHeader}
 use Rattle.pb_adv.specs.declared.SegmentHeader.TheVariants.{Start, Continuation}
-use Rattle.pb_adv.specs.declared.Parsed.{Parsed}
 use Rattle.pb_adv.proofs.Tables.{IsFrame, start, acknowledgement, continuation, opens, acks, closes}
 use Rattle.links.specs.Marks.{is_marked, with_mark, all_marked}
 use Rattle.links.specs.Links.{peer, sends, is_last, blank, with_state, with_sending}
@@ -30,11 +34,7 @@ use Rattle.links.specs.declared.Side.TheVariants.{Provisioner, Device}
 use Rattle.links.specs.declared.LinkState.{LinkState}
 use Rattle.links.specs.declared.LinkState.TheVariants as S
 use Rattle.links.specs.declared.HalfMessage.{HalfMessage}
-use Rattle.links.specs.declared.HalfReceived.{HalfReceived}
-use Rattle.links.specs.declared.HalfReceived.TheVariants as H
 use Rattle.links.specs.declared.Refusal.TheVariants as R
-use Rattle.links.specs.declared.Answer.{Answer}
-use Rattle.links.specs.declared.Answer.TheVariants as A
 use Rattle.links.proofs.Bad.{blank-said}
 use Rattle.links.proofs.Opens.{Opens, refuses, finds, begins, openings}
 
@@ -59,23 +59,23 @@ module _ (side : Side) (x : OneLink) where
 
   module _ (f : List ℕ) where
     -- by what is half-received
-    abbrev leaves_at : HalfReceived → Answer → OneLink
+    abbrev leaves_at : Option HalfMessage → Result Answer Refusal → OneLink
     leaves_at half a = leaves_by side x (link_id f) (message_of half f) (index_in f) (octets_in f) a
 
-    start-leaves : kind_of f ≡ 0 → (half : HalfReceived)
+    start-leaves : kind_of f ≡ 0 → (half : Option HalfMessage)
         → (on_half x half (number_of f) (Start (length_in f) (check_in f)) (part f 9 (length f - 9))).1
         ≡ leaves_at half (on_half x half (number_of f) (Start (length_in f) (check_in f)) (part f 9 (length f - 9))).0
-    start-leaves k H.Nothing = rw k (entered-leaves (link_id f) (begun (number_of f) (length_in f) (check_in f)) 0 (part f 9 (length f - 9)))
-    start-leaves k (H.Message h) =
+    start-leaves k None = rw k (entered-leaves (link_id f) (begun (number_of f) (length_in f) (check_in f)) 0 (part f 9 (length f - 9)))
+    start-leaves k (Some h) =
         cases (eqb h.number.0 (number_of f).0)
         (λ e. rw (e, k) (cases (eqb h.length (length_in f) && eqb h.check (check_in f)) (λ u. rw u (offered-leaves (link_id f) h 0 (part f 9 (length f - 9)))) (λ u. rw u)))
         (λ e. rw (e, k) (entered-leaves (link_id f) (begun (number_of f) (length_in f) (check_in f)) 0 (part f 9 (length f - 9))))
 
-    continuation-leaves : kind_of f ≡ 2 → (half : HalfReceived)
+    continuation-leaves : kind_of f ≡ 2 → (half : Option HalfMessage)
         → (on_half x half (number_of f) (Continuation (high_bits f)) (part f 6 (length f - 6))).1
         ≡ leaves_at half (on_half x half (number_of f) (Continuation (high_bits f)) (part f 6 (length f - 6))).0
-    continuation-leaves k H.Nothing = refl
-    continuation-leaves k (H.Message h) =
+    continuation-leaves k None = refl
+    continuation-leaves k (Some h) =
         cases (eqb h.number.0 (number_of f).0) (λ e. rw (e, k) (offered-leaves (link_id f) h (high_bits f) (part f 6 (length f - 6)))) (λ e. rw e)
 
     segment-leaves : (header : SegmentHeader) (d : List ℕ)
@@ -86,8 +86,8 @@ module _ (side : Side) (x : OneLink) where
 
     open-segment : (header : SegmentHeader) (d : List ℕ)
         → (on_half x x.link.half (number_of f) header d).1 ≡ leaves side x f (on_half x x.link.half (number_of f) header d).0
-        → (cond (sends (peer side) (number_of f)) (segment_step x (number_of f) header d) (A.Refused R.WrongDirection, x)).1
-        ≡ leaves side x f (cond (sends (peer side) (number_of f)) (segment_step x (number_of f) header d) (A.Refused R.WrongDirection, x)).0
+        → (cond (sends (peer side) (number_of f)) (segment_step x (number_of f) header d) (Err R.WrongDirection, x)).1
+        ≡ leaves side x f (cond (sends (peer side) (number_of f)) (segment_step x (number_of f) header d) (Err R.WrongDirection, x)).0
     open-segment header d h = cases (sends (peer side) (number_of f)) (λ q. rw q (segment-leaves header d h)) (λ q. rw q)
 
     -- ---- a frame of another kind
@@ -113,7 +113,7 @@ module _ (side : Side) (x : OneLink) where
     opened-leaves Provisioner g = refl
     opened-leaves Device g = absurd (false≢true g)
 
-    pub frame-leaves : (state : LinkState) → good_as side state x.link ≡ true → (p : Parsed) → IsFrame f p
+    pub frame-leaves : (state : LinkState) → good_as side state x.link ≡ true → (p : Result Frame FrameRefusal) → IsFrame f p
         → (frame_step side x state f p).1 ≡ leaves side x f (frame_step side x state f p).0
     unfolding frame_step
     frame-leaves S.Free g p r = refl
@@ -134,7 +134,7 @@ module _ (side : Side) (x : OneLink) where
 pub open-leaves : (own : List ℕ) (x : OneLink) (f : List ℕ) → (open_step own x f (link_id f) 6).1 ≡ leaves Device x f (open_step own x f (link_id f) 6).0
 open-leaves own x f = of (openings own x f (link_id f) 6)
   where
-    of : {q : Answer × OneLink} → Opens own x f (link_id f) 6 q → q.1 ≡ leaves Device x f q.0
+    of : {q : Result Answer Refusal × OneLink} → Opens own x f (link_id f) 6 q → q.1 ≡ leaves Device x f q.0
     of (refuses r n e) = rw (e, n)
     of (finds e) = rw e
     of (begins u n e) = rw e (ap (set_link x) (blank-said Device S.Open (link_id f)))

@@ -1,5 +1,6 @@
 -- The station as its sockets: what is put for one socket is there, leaves the others, and leaves a good state good.
 use Prim.Native.Nat.{ℕ, zero, suc, ◌+◌, ◌*◌, ◌-◌, ◌≤◌, ◌<◌}
+use Rattle.std.specs.Prelude.{Option, Some, None}
 use native.Mathlib.Nat.{le_of_suc-le-suc, add-zero, sub-zero}
 use native.Mathlib.Omega.{arith}
 use mathlib.Core.Bool.{Bool, true, false, ◌&&◌, cond, not, false≢true}
@@ -15,13 +16,12 @@ use Rattle.octets.proofs.Parts.{part_length, take_part, write-length, part_same,
 use Rattle.octets.proofs.Tests.{cases, both, both_hold, holds-both}
 use Rattle.pb_adv.specs.Frame.{is_uuid}
 use Rattle.links.specs.Links.{End, provisioner, device, in_use, has_id, find_from, find}
-use Rattle.links.specs.Good.{good_link, apart, all, all_apart, good}
+use Rattle.links.specs.Good.{good_link, apart, all_apart, good}
+use Rattle.std.specs.List.{list_all}
 use Rattle.links.specs.Segments.{OneLink}
 use Rattle.links.specs.Station.{Station, no_link, get_link, put_link, is_right}
 use Rattle.links.specs.declared.Side.{Side}
 use Rattle.links.specs.declared.Link.{Link}
-use Rattle.links.specs.declared.Found.{Found}
-use Rattle.links.specs.declared.Found.TheVariants.{At, Nowhere}
 
 -- ---- right arguments
 
@@ -122,19 +122,19 @@ put-get s σ h = λ i. record { links = set-get_or σ.links s no_link i; area = 
 
 -- ---- tests over all records
 
-pub all-at : {B : Type 0} (p : B → Bool) (l : List B) (s : ℕ) (z : B) → all p l ≡ true → s < length l → p (get_or l s z) ≡ true
+pub all-at : {B : Type 0} (p : B → Bool) (l : List B) (s : ℕ) (z : B) → list_all p l ≡ true → s < length l → p (get_or l s z) ≡ true
 all-at p [] s z h b = absurd (omega arith)
-all-at p (x ∷ l) zero z h b = (both_hold {a = p x} {b = all p l} h).0
-all-at p (x ∷ l) (suc s) z h b = all-at p l s z (both_hold {a = p x} {b = all p l} h).1 (le_of_suc-le-suc b)
+all-at p (x ∷ l) zero z h b = (both_hold {a = p x} {b = list_all p l} h).0
+all-at p (x ∷ l) (suc s) z h b = all-at p l s z (both_hold {a = p x} {b = list_all p l} h).1 (le_of_suc-le-suc b)
 
-pub all-each : {B : Type 0} (p : B → Bool) (l : List B) (z : B) → ((s : ℕ) → s < length l → p (get_or l s z) ≡ true) → all p l ≡ true
+pub all-each : {B : Type 0} (p : B → Bool) (l : List B) (z : B) → ((s : ℕ) → s < length l → p (get_or l s z) ≡ true) → list_all p l ≡ true
 all-each p [] z h = refl
 all-each p (x ∷ l) z h = holds-both (h 0 (omega arith)) (all-each p l z (λ s b. h (suc s) (omega arith)))
 
-pub all_set : {B : Type 0} (p : B → Bool) (l : List B) (s : ℕ) (b : B) → all p l ≡ true → p b ≡ true → all p (set l s b) ≡ true
+pub all_set : {B : Type 0} (p : B → Bool) (l : List B) (s : ℕ) (b : B) → list_all p l ≡ true → p b ≡ true → list_all p (set l s b) ≡ true
 all_set p [] s b h k = refl
-all_set p (x ∷ l) zero b h k = holds-both k (both_hold {a = p x} {b = all p l} h).1
-all_set p (x ∷ l) (suc s) b h k = let q = both_hold {a = p x} {b = all p l} h in holds-both q.0 (all_set p l s b q.1 k)
+all_set p (x ∷ l) zero b h k = holds-both k (both_hold {a = p x} {b = list_all p l} h).1
+all_set p (x ∷ l) (suc s) b h k = let q = both_hold {a = p x} {b = list_all p l} h in holds-both q.0 (all_set p l s b q.1 k)
 
 -- ---- records apart
 
@@ -153,19 +153,19 @@ apart-sym a b = go (in_use a.state) (in_use b.state) (same_test a.id b.id)
 pub apart-at : (ls : List Link) (i j : ℕ) → all_apart ls ≡ true → i < length ls → j < length ls → i ≢ j → apart (get_or ls i no_link) (get_or ls j no_link) ≡ true
 apart-at [] i j h b c d = absurd (omega arith)
 apart-at (l ∷ ls) zero zero h b c d = absurd (d refl)
-apart-at (l ∷ ls) zero (suc j) h b c d = all-at (apart l) ls j no_link (both_hold {a = all (apart l) ls} {b = all_apart ls} h).0 (le_of_suc-le-suc c)
+apart-at (l ∷ ls) zero (suc j) h b c d = all-at (apart l) ls j no_link (both_hold {a = list_all (apart l) ls} {b = all_apart ls} h).0 (le_of_suc-le-suc c)
 apart-at (l ∷ ls) (suc i) zero h b c d =
-    apart-sym (get_or ls i no_link) l ∙ all-at (apart l) ls i no_link (both_hold {a = all (apart l) ls} {b = all_apart ls} h).0 (le_of_suc-le-suc b)
+    apart-sym (get_or ls i no_link) l ∙ all-at (apart l) ls i no_link (both_hold {a = list_all (apart l) ls} {b = all_apart ls} h).0 (le_of_suc-le-suc b)
 apart-at (l ∷ ls) (suc i) (suc j) h b c d =
-    apart-at ls i j (both_hold {a = all (apart l) ls} {b = all_apart ls} h).1 (le_of_suc-le-suc b) (le_of_suc-le-suc c) (λ e. d (ap suc e))
+    apart-at ls i j (both_hold {a = list_all (apart l) ls} {b = all_apart ls} h).1 (le_of_suc-le-suc b) (le_of_suc-le-suc c) (λ e. d (ap suc e))
 
 apart-set : (ls : List Link) (s : ℕ) (l : Link) → all_apart ls ≡ true → ((j : ℕ) → j < length ls → s ≢ j → apart l (get_or ls j no_link) ≡ true)
     → all_apart (set ls s l) ≡ true
 apart-set [] s l h k = refl
 apart-set (m ∷ ls) zero l h k =
-    holds-both (all-each (apart l) ls no_link (λ j b. k (suc j) (omega arith) (λ e. absurd (omega arith)))) (both_hold {a = all (apart m) ls} {b = all_apart ls} h).1
+    holds-both (all-each (apart l) ls no_link (λ j b. k (suc j) (omega arith) (λ e. absurd (omega arith)))) (both_hold {a = list_all (apart m) ls} {b = all_apart ls} h).1
 apart-set (m ∷ ls) (suc s) l h k =
-    let p = both_hold {a = all (apart m) ls} {b = all_apart ls} h in
+    let p = both_hold {a = list_all (apart m) ls} {b = all_apart ls} h in
     holds-both
     (all_set (apart m) ls s l p.0 (apart-sym m l ∙ k 0 (omega arith) (λ e. absurd (omega arith))))
     (apart-set ls s l p.1 (λ j b d. k (suc j) (omega arith) (λ e. d (omega arith))))
@@ -179,32 +179,32 @@ not-apart l m id p q =
     let v = both_hold {a = in_use m.state} {b = eqb m.id id} q in
     rw (u.0, v.0, eq-eqb l.id m.id (eqb-true l.id id u.1 ∙ sym (eqb-true m.id id v.1)))
 
-find-from : (k : ℕ) (ls : List Link) (id s : ℕ) → all_apart ls ≡ true → s < length ls → has_id (get_or ls s no_link) id ≡ true → find_from k ls id ≡ At (k + s)
+find-from : (k : ℕ) (ls : List Link) (id s : ℕ) → all_apart ls ≡ true → s < length ls → has_id (get_or ls s no_link) id ≡ true → find_from k ls id ≡ Some (k + s)
 unfolding find_from
 find-from k [] id s d h e = absurd (omega arith)
 find-from k (l ∷ ls) id zero d h e = rw (e, add-zero k)
 find-from k (l ∷ ls) id (suc s) d h e =
-    let p = both_hold {a = all (apart l) ls} {b = all_apart ls} d in
+    let p = both_hold {a = list_all (apart l) ls} {b = all_apart ls} d in
     let b : s < length ls = le_of_suc-le-suc h in
     let q : suc k + s ≡ k + suc s = omega arith in
-    both (λ t. cond t (At k) (find_from (suc k) ls id) ≡ At (k + suc s)) (has_id l id)
+    both (λ t. cond t (Some k) (find_from (suc k) ls id) ≡ Some (k + suc s)) (has_id l id)
     (λ u. absurd (false≢true (sym (not-apart l (get_or ls s no_link) id u e) ∙ all-at (apart l) ls s no_link p.0 b)))
-    (λ u. find-from (suc k) ls id s p.1 b e ∙ ap At q)
+    (λ u. find-from (suc k) ls id s p.1 b e ∙ ap Some q)
 
-pub find_at : (ls : List Link) (id s : ℕ) → all_apart ls ≡ true → s < length ls → has_id (get_or ls s no_link) id ≡ true → find ls id ≡ At s
-find_at ls id s d h e = let q : 0 + s ≡ s = omega arith in find-from 0 ls id s d h e ∙ ap At q
+pub find_at : (ls : List Link) (id s : ℕ) → all_apart ls ≡ true → s < length ls → has_id (get_or ls s no_link) id ≡ true → find ls id ≡ Some s
+find_at ls id s d h e = let q : 0 + s ≡ s = omega arith in find-from 0 ls id s d h e ∙ ap Some q
 
 -- what a search says whose places are counted from k on
-abbrev FindSays : ℕ → List Link → ℕ → Found → Type 0
-FindSays k ls id (At s) = (k ≤ s) × (s - k < length ls) × (has_id (get_or ls (s - k) no_link) id ≡ true)
-FindSays k ls id Nowhere = (j : ℕ) → has_id (get_or ls j no_link) id ≡ false
+abbrev FindSays : ℕ → List Link → ℕ → Option ℕ → Type 0
+FindSays k ls id (Some s) = (k ≤ s) × (s - k < length ls) × (has_id (get_or ls (s - k) no_link) id ≡ true)
+FindSays k ls id None = (j : ℕ) → has_id (get_or ls j no_link) id ≡ false
 
-says-further : (k : ℕ) (l : Link) (ls : List Link) (id : ℕ) → has_id l id ≡ false → (r : Found) → FindSays (suc k) ls id r → FindSays k (l ∷ ls) id r
-says-further k l ls id e (At s) h =
+says-further : (k : ℕ) (l : Link) (ls : List Link) (id : ℕ) → has_id l id ≡ false → (r : Option ℕ) → FindSays (suc k) ls id r → FindSays k (l ∷ ls) id r
+says-further k l ls id e (Some s) h =
     let b : suc k ≤ s = h.0 in
     let q : s - k ≡ suc (s - suc k) = omega arith in
     (omega arith, omega (arith, h.1), rw q h.2)
-says-further k l ls id e Nowhere h = by_place
+says-further k l ls id e None h = by_place
   where
     by_place : (j : ℕ) → has_id (get_or (l ∷ ls) j no_link) id ≡ false
     by_place zero = e
@@ -215,19 +215,19 @@ unfolding find_from
 find-says k [] id = λ j. refl
 find-says k (l ∷ ls) id =
     let q : k - k ≡ 0 = omega arith in
-    both (λ t. FindSays k (l ∷ ls) id (cond t (At k) (find_from (suc k) ls id))) (has_id l id)
+    both (λ t. FindSays k (l ∷ ls) id (cond t (Some k) (find_from (suc k) ls id))) (has_id l id)
     (λ e. (omega arith, omega arith, rw q e))
     (λ e. says-further k l ls id e (find_from (suc k) ls id) (find-says (suc k) ls id))
 
-pub found_at : (ls : List Link) (id s : ℕ) → find ls id ≡ At s → (s < length ls) × (has_id (get_or ls s no_link) id ≡ true)
+pub found_at : (ls : List Link) (id s : ℕ) → find ls id ≡ Some s → (s < length ls) × (has_id (get_or ls s no_link) id ≡ true)
 found_at ls id s e = let h = subst (FindSays 0 ls id) e (find-says 0 ls id) in (omega (arith, h.1), rw (sub-zero s) at h.2)
 
-pub found_nowhere : (ls : List Link) (id : ℕ) → find ls id ≡ Nowhere → (j : ℕ) → has_id (get_or ls j no_link) id ≡ false
+pub found_nowhere : (ls : List Link) (id : ℕ) → find ls id ≡ None → (j : ℕ) → has_id (get_or ls j no_link) id ≡ false
 found_nowhere ls id e = subst (FindSays 0 ls id) e (find-says 0 ls id)
 
 -- ---- a good state stays good
 
-pub good-out : (side : Side) (ls : List Link) → good side ls ≡ true → (all (good_link side) ls ≡ true) × (all_apart ls ≡ true)
+pub good-out : (side : Side) (ls : List Link) → good side ls ≡ true → (list_all (good_link side) ls ≡ true) × (all_apart ls ≡ true)
 unfolding good
 good-out side ls h = both_hold h
 

@@ -1,5 +1,7 @@
 -- What a local call does: it refuses, or writes its socket's record.
 use Prim.Native.Nat.{ℕ}
+use Rattle.links.specs.declared.Answer.{Answer}
+use Rattle.std.specs.Prelude.{Result, Ok, Err}
 use Prim.Native.String.{String}
 use mathlib.Core.Bool.{Bool, true, false, ◌&&◌}
 use mathlib.Core.List.{List}
@@ -23,21 +25,20 @@ use Rattle.links.specs.declared.LinkState.TheVariants as S
 use Rattle.links.specs.declared.Link.{Link}
 use Rattle.links.specs.declared.Refusal.{Refusal}
 use Rattle.links.specs.declared.Refusal.TheVariants as R
-use Rattle.links.specs.declared.Answer.{Answer}
 use Rattle.links.specs.declared.Answer.TheVariants as A
 
 module _ (side : Side) (ls : List Link) (socket : Socket) where
   -- a local call refuses and changes nothing, or answers a and writes l for its socket's record; it does that only where C is so
-  pub data Calls (C : Type 0) (a : Answer) (l : Link) (r : Answer × List Link) : Type 0 where
-    refusal : (q : Refusal) → r ≡ (A.Refused q, ls) → Calls C a l r
+  pub data Calls (C : Type 0) (a : Result Answer Refusal) (l : Link) (r : Result Answer Refusal × List Link) : Type 0 where
+    refusal : (q : Refusal) → r ≡ (Err q, ls) → Calls C a l r
     written : is_socket socket (length ls) ≡ true → good side ls ≡ true → C → r ≡ (a, with_link ls socket l) → Calls C a l r
 
-  judged-calls : {C : Type 0} {a : Answer} {l : Link} (right : Bool) (step : Answer × List Link) → (right ≡ true → good side ls ≡ true → Calls C a l step)
+  judged-calls : {C : Type 0} {a : Result Answer Refusal} {l : Link} (right : Bool) (step : Result Answer Refusal × List Link) → (right ≡ true → good side ls ≡ true → Calls C a l step)
       → Calls C a l (judged side ls right step)
   judged-calls right step h =
       cases right (λ e. rw e (cases (good side ls) (λ g. rw g (h e g)) (λ g. rw g (refusal R.BadState refl)))) (λ e. rw e (refusal R.WrongArgument refl))
 
-  pub open-calls : (id : ℕ) → Calls (is_found (find ls id) ≡ false) A.Done (blank_with side S.Opening id) (local_open side ls socket id)
+  pub open-calls : (id : ℕ) → Calls (is_found (find ls id) ≡ false) (Ok A.Done) (blank_with side S.Opening id) (local_open side ls socket id)
   unfolding local_open
   open-calls id =
       judged-calls (is_socket socket (length ls)) _
@@ -45,14 +46,14 @@ module _ (side : Side) (ls : List Link) (socket : Socket) where
       (λ e. rw e (cases (is_found (find ls id)) (λ u. rw u (refusal R.LinkIdInUse refl)) (λ u. rw u (written r g refl refl)))))
 
   -- a refusal by the step of the socket's record
-  record-refuses : {C : Type 0} {a : Answer} {l : Link} (q : Refusal) → Calls C a l (A.Refused q, with_link ls socket (link_at ls socket))
+  record-refuses : {C : Type 0} {a : Result Answer Refusal} {l : Link} (q : Refusal) → Calls C a l (Err q, with_link ls socket (link_at ls socket))
   record-refuses q = refusal q (rw (set-get_or ls (socket_place socket) no_link))
 
   -- the record with its outstanding mark set
   abbrev pub sending : Link
   sending = with_sending (link_at ls socket) (link_at ls socket).next true
 
-  pub send-calls : (n : ℕ) → Calls (is_open (link_at ls socket).state ≡ true) (A.Sending (link_at ls socket).next (seg_n n)) sending (local_send side ls socket n)
+  pub send-calls : (n : ℕ) → Calls (is_open (link_at ls socket).state ≡ true) (Ok (A.Sending (link_at ls socket).next (seg_n n))) sending (local_send side ls socket n)
   unfolding local_send
   send-calls n =
       judged-calls (is_socket socket (length ls) && is_length n) _
@@ -61,7 +62,7 @@ module _ (side : Side) (ls : List Link) (socket : Socket) where
       (λ u. rw u (written (both_hold {a = is_socket socket (length ls)} {b = is_length n} r).0 g refl refl))))
       (λ e. rw e (record-refuses R.NotOpen)))
 
-  pub close-calls : Calls (in_use (link_at ls socket).state ≡ true) A.Done (blank side) (local_close side ls socket)
+  pub close-calls : Calls (in_use (link_at ls socket).state ≡ true) (Ok A.Done) (blank side) (local_close side ls socket)
   unfolding local_close
   close-calls =
       judged-calls (is_socket socket (length ls)) _
@@ -77,15 +78,15 @@ module _ (side : Side) (ls : List Link) (socket : Socket) where
   close-nowhere e = rw e
 
   -- whatever holds of the records as they were, and with that record written, holds afterwards
-  holds : {C : Type 0} {a : Answer} {l : Link} {r : Answer × List Link} (P : List Link → Type 0) → P ls → P (with_link ls socket l) → Calls C a l r → P r.1
+  holds : {C : Type 0} {a : Result Answer Refusal} {l : Link} {r : Result Answer Refusal × List Link} (P : List Link → Type 0) → P ls → P (with_link ls socket l) → Calls C a l r → P r.1
   holds P same changed (refusal q e) = rw e same
   holds P same changed (written r g c e) = rw e changed
 
   -- an answer that is no refusal
-  pub written-by : {C : Type 0} {a : Answer} {l : Link} {r : Answer × List Link} → Calls C a l r
+  pub written-by : {C : Type 0} {a : Result Answer Refusal} {l : Link} {r : Result Answer Refusal × List Link} → Calls C a l r
       → (word : String) (values : List ℕ) → told r.0 ≡ answered word values → r.1 ≡ with_link ls socket l
-  written-by (refusal q e) word values h = other-told _ _ refl (sym (ap (λ (r : Answer × List Link). told r.0) e) ∙ h)
-  written-by (written r g c e) word values h = ap (λ (r : Answer × List Link). r.1) e
+  written-by (refusal q e) word values h = other-told _ _ refl (sym (ap (λ (r : Result Answer Refusal × List Link). told r.0) e) ∙ h)
+  written-by (written r g c e) word values h = ap (λ (r : Result Answer Refusal × List Link). r.1) e
 
 -- ---- the number of records stays
 

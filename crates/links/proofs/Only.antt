@@ -1,5 +1,10 @@
 -- Demand 2, only: any operations and any octets; what a link delivers came by its cut, from the Start that began it on.
 use Prim.Native.Nat.{ℕ, zero, suc, ◌≤◌, ◌<◌}
+use Rattle.links.specs.declared.Answer.{Answer}
+use Rattle.links.specs.declared.Refusal.{Refusal}
+use Rattle.pb_adv.specs.declared.Frame.{Frame}
+use Rattle.pb_adv.specs.declared.FrameRefusal.{FrameRefusal}
+use Rattle.std.specs.Prelude.{Option, Some, None, Result, Ok, Err}
 use native.Mathlib.Omega.{arith}
 use mathlib.Core.Bool.{true, false≢true}
 use mathlib.Core.List.Memᴰ
@@ -22,7 +27,6 @@ use Rattle.pb_adv.specs.Frame.{parsed, segment_octets}
 use Rattle.transactions.specs.declared.TransactionNumber.{TransactionNumber}
 use Rattle.transactions.specs.declared.Socket.{Socket}
 use Rattle.pb_adv.specs.declared.SegmentHeader.{SegmentHeader}
-use Rattle.pb_adv.specs.declared.Parsed.{Parsed}
 use Rattle.pb_adv.proofs.Promises.{segments-are-encodings}
 use Rattle.pb_adv_writing.specs.Writing.{header_of, segment_frame}
 use Rattle.links.specs.Marks.{is_marked, with_mark, all_marked}
@@ -36,11 +40,7 @@ use Rattle.links.specs.Promises.{addressed}
 use Rattle.links.specs.Demand2.{OpenUnder, Receiving, CameByCut, FromCut, Delivery, Only}
 use Rattle.links.specs.declared.LinkState.TheVariants as S
 use Rattle.links.specs.declared.HalfMessage.{HalfMessage}
-use Rattle.links.specs.declared.HalfReceived.{HalfReceived}
-use Rattle.links.specs.declared.HalfReceived.TheVariants as H
 use Rattle.links.specs.declared.Link.{Link}
-use Rattle.links.specs.declared.Found.TheVariants.{At}
-use Rattle.links.specs.declared.Answer.{Answer}
 use Rattle.links.specs.declared.Answer.TheVariants as A
 use Rattle.links.proofs.Marks.{marked_other, none-marked, all-marked-each}
 use Rattle.links.proofs.Interleaving.{after-append, before-each-snoc}
@@ -61,10 +61,10 @@ use Rattle.links.proofs.Sockets.{socket_at, is-socket}
 
 -- ---- an Open at a device's link leaves what is half-received, or drops it
 
-open-does : (own : List ℕ) (x : OneLink) (f : List ℕ) (o : Octets f) (id uuid : ℕ) {p : Parsed} → Link.Does x f o p (open_step own x f id uuid)
+open-does : (own : List ℕ) (x : OneLink) (f : List ℕ) (o : Octets f) (id uuid : ℕ) {p : Result Frame FrameRefusal} → Link.Does x f o p (open_step own x f id uuid)
 open-does own x f o id uuid {p} = of (openings own x f id uuid)
   where
-    of : {q : Answer × OneLink} → Opens own x f id uuid q → Link.Does x f o p q
+    of : {q : Result Answer Refusal × OneLink} → Opens own x f id uuid q → Link.Does x f o p q
     of (Opening.refuses r n e) = rw e (keeps tt refl (kept_same x.link))
     of (finds e) = rw e (keeps tt refl (kept_same x.link))
     of (begins u n e) = rw e (keeps tt refl (drops refl))
@@ -75,13 +75,13 @@ step-does end x f o =
 
 -- ---- a half-received message, if there is one
 
-abbrev IfHalf : (HalfMessage → Type 0) → HalfReceived → Type 0
-IfHalf P H.Nothing = Unit {0}
-IfHalf P (H.Message h) = P h
+abbrev IfHalf : (HalfMessage → Type 0) → Option HalfMessage → Type 0
+IfHalf P None = Unit {0}
+IfHalf P (Some h) = P h
 
-if-half : (P Q : HalfMessage → Type 0) (o : HalfReceived) → ((h : HalfMessage) → o ≡ H.Message h → P h → Q h) → IfHalf P o → IfHalf Q o
-if-half P Q H.Nothing g i = tt
-if-half P Q (H.Message h) g i = g h refl i
+if-half : (P Q : HalfMessage → Type 0) (o : Option HalfMessage) → ((h : HalfMessage) → o ≡ Some h → P h → Q h) → IfHalf P o → IfHalf Q o
+if-half P Q None g i = tt
+if-half P Q (Some h) g i = g h refl i
 
 -- segment k of the half-received message h, as it stands in the part p
 abbrev standing : ℕ → List ℕ → HalfMessage → ℕ → Operation
@@ -106,7 +106,7 @@ module _ (end : End) (σ : Station) (socket : Socket) where
     since : List Operation
     split : past ≡ before ++ (start ∷ since)
     opened : OpenUnder id (get_link s (after before))
-    began : (g : HalfMessage) → (get_link s (after before)).link.half ≡ H.Message g → g.number ≢ h.number
+    began : (g : HalfMessage) → (get_link s (after before)).link.half ≡ Some g → g.number ≢ h.number
     held : BeforeEach (operate end) (λ τ. Receiving id h.number h.length (get_link s τ)) (after (before ++ (start ∷ []))) since
     first : start ≡ standing id p h 0
     came : (k : ℕ) → k ≤ seg_n h.length → is_marked h.marks k ≡ true → Memᴰ (standing id p h k) (start ∷ since)
@@ -154,7 +154,7 @@ module _ (end : End) (σ : Station) (socket : Socket) where
     here = get_link s (after past)
 
     -- what an operation leaves of the link
-    record Leaves (r : Answer × OneLink) : Type 0 where
+    record Leaves (r : Result Answer Refusal × OneLink) : Type 0 where
       half : Sound (past ++ (c ∷ [])) r.1
       told : IfDelivered (λ n t. (length (take n r.1.part) ≡ n) × CameByCut end σ socket here.link.id (record { number = t; octets = take n r.1.part }) (past ++ (c ∷ []))) r.0
 
@@ -174,7 +174,7 @@ module _ (end : End) (σ : Station) (socket : Socket) where
       came = g;
     }
 
-    now : (h : HalfMessage) → here.link.half ≡ H.Message h → here.link.state ≡ S.Open → Receiving here.link.id h.number h.length here
+    now : (h : HalfMessage) → here.link.half ≡ Some h → here.link.state ≡ S.Open → Receiving here.link.id h.number h.length here
     now h g o = record { under = record { is_open = o; has_id = refl }; half = h; is_half = g; number = refl; long = refl }
 
     -- that leaves what is half-received, or drops it
@@ -196,7 +196,7 @@ module _ (end : End) (σ : Station) (socket : Socket) where
       abbrev written : List ℕ
       written = write here.part (segment_place k) d
 
-      good-half : here.link.half ≡ H.Message h → GoodMessage (side_of end) here.link.last h
+      good-half : here.link.half ≡ Some h → GoodMessage (side_of end) here.link.last h
       good-half e =
           let o = open-out (side_of end) here.link (good-as (side_of end) here.link opened link_good) in
           message-out (side_of end) here.link.last h (rw e at o.2)
@@ -242,7 +242,7 @@ module _ (end : End) (σ : Station) (socket : Socket) where
                 (λ y. absurd (false≢true (sym (none-marked j) ∙ sym (ap (λ (g : HalfMessage). is_marked g.marks j) e) ∙ sym (marked_other h.marks k j (eqb-false k j y)) ∙ u)));
           }
 
-      ended : {r : Answer × OneLink} → Ends here h k d r → Leaves r
+      ended : {r : Result Answer Refusal × OneLink} → Ends here h k d r → Leaves r
       ended (is_whole all right e) =
           let size : length written ≡ length here.part = write-length here.part (segment_place k) d (segment-fits-in h.length here.part k d some room n.inside n.right) in
           let fits : h.length ≤ length written = rw size room in
@@ -256,11 +256,11 @@ module _ (end : End) (σ : Station) (socket : Socket) where
     same : Sound (past ++ (receiving f ∷ [])) (get_link s (after past))
     same = goes_on past (receiving f) (get_link s (after past)) i refl (kept_same (get_link s (after past)).link)
 
-    at-link : is_right end (after past) ≡ true → good (side_of end) (after past).links ≡ true → s < length (after past).links → addressed end (after past).links (parsed f) ≡ At s
+    at-link : is_right end (after past) ≡ true → good (side_of end) (after past).links ≡ true → s < length (after past).links → addressed end (after past).links (parsed f) ≡ Some s
         → Leaves past (receiving f) (step_of end (get_link s (after past)) f (parsed f))
     at-link right state_good below at = of (step-does end (get_link s (after past)) f o)
       where
-        of : {r : Answer × OneLink} → Link.Does (get_link s (after past)) f o (parsed f) r → Leaves past (receiving f) r
+        of : {r : Result Answer Refusal × OneLink} → Link.Does (get_link s (after past)) f o (parsed f) r → Leaves past (receiving f) r
         of {r} (keeps q e k) = record { half = goes_on past (receiving f) r.1 i e k; told = if-delivered (λ n t. ⊥) _ (λ n t z. absurd z) r.0 q }
         of {r} (enters g e opened h k n q) =
             let d = part f g.from g.count in
@@ -300,16 +300,16 @@ module _ (end : End) (σ : Station) (operations : List Operation) (all : All (Of
   abbrev n : ℕ
   n = delivered.long
 
-  delivers : (socket : Socket) → is_right end τ ≡ true → good (side_of end) τ.links ≡ true → socket_place socket < length τ.links → addressed end τ.links (parsed f) ≡ At (socket_place socket)
-      → received end τ f ≡ placed τ (socket_place socket) (step_of end (get_link (socket_place socket) τ) f (parsed f)) → (get_link (socket_place socket) σ).link.half ≡ H.Nothing → FromCut end σ socket operations f values
+  delivers : (socket : Socket) → is_right end τ ≡ true → good (side_of end) τ.links ≡ true → socket_place socket < length τ.links → addressed end τ.links (parsed f) ≡ Some (socket_place socket)
+      → received end τ f ≡ placed τ (socket_place socket) (step_of end (get_link (socket_place socket) τ) f (parsed f)) → (get_link (socket_place socket) σ).link.half ≡ None → FromCut end σ socket operations f values
   delivers socket right state_good below at q nothing =
       let s = socket_place socket in
       let r = step_of end (get_link s τ) f (parsed f) in
       let u = at-link end σ socket operations f o (runs end σ socket [] operations all (rw nothing tt)) right state_good below at in
       let last : get_link s (after_all end σ (operations ++ (receiving f ∷ []))) ≡ r.1 =
-      ap (get_link s) (after-append (operate end) σ operations (receiving f ∷ []) ∙ ap (λ (p : Answer × Station). p.1) q) ∙ (get-put (length τ.links) τ refl (right-sized end τ right) s below r.1 (stepped-keeps end τ f s o right state_good below).part) in
+      ap (get_link s) (after-append (operate end) σ operations (receiving f ∷ []) ∙ ap (λ (p : Result Answer Refusal × Station). p.1) q) ∙ (get-put (length τ.links) τ refl (right-sized end τ right) s below r.1 (stepped-keeps end τ f s o right state_good below).part) in
       let w = subst (IfDelivered (λ n t. (length (take n r.1.part) ≡ n) × CameByCut end σ socket (get_link s τ).link.id (record { number = t; octets = take n r.1.part }) (operations ++ (receiving f ∷ []))))
-      (sym (ap (λ (p : Answer × Station). p.0) q) ∙ delivered.is) u.told in
+      (sym (ap (λ (p : Result Answer Refusal × Station). p.0) q) ∙ delivered.is) u.told in
       record {
         message = record { number = delivered.number; octets = take n r.1.part };
         valued = delivered.values-are ∙ ap (λ (k : ℕ). k ∷ delivered.number.0 ∷ []) (sym w.0);
@@ -321,14 +321,14 @@ module _ (end : End) (σ : Station) (operations : List Operation) (all : All (Of
   delivery = of (does end τ f)
     where
       of : Promise.Does end τ f (parsed f) (received end τ f) → Delivery end σ operations f values
-      of (refuses a q) = let e : A.Refused a ≡ A.Delivered n delivered.number = sym (ap (λ (p : Answer × Station). p.0) q) ∙ delivered.is in let z : ◌≡◌ {A = ℕ} 0 1 = cc in absurd (omega arith)
+      of (refuses a q) = let e : Err a ≡ Ok (A.Delivered n delivered.number) = sym (ap (λ (p : Result Answer Refusal × Station). p.0) q) ∙ delivered.is in let z : ◌≡◌ {A = ℕ} 0 1 = cc in absurd (omega arith)
       of (steps j right state_good below at q) =
           let p : j ≡ socket_place (socket_at j) = omega arith in
           record {
             socket = socket_at j;
             numbered = is-socket j (length σ.links) (rw (after-count end σ operations) at below);
-            is_for = at ∙ ap At p;
-            only = delivers (socket_at j) right state_good (omega arith) (at ∙ ap At p) (q ∙ ap (λ (i : ℕ). placed τ i (step_of end (get_link i τ) f (parsed f))) p);
+            is_for = at ∙ ap Some p;
+            only = delivers (socket_at j) right state_good (omega arith) (at ∙ ap Some p) (q ∙ ap (λ (i : ℕ). placed τ i (step_of end (get_link i τ) f (parsed f))) p);
           }
 
 -- DEMAND 2, ONLY

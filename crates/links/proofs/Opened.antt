@@ -1,5 +1,10 @@
 -- A link in use was opened: by any operations, a record comes into use by a local Open alone, or at a device's end by an Open with its own UUID.
 use Prim.Native.Nat.{ℕ, ◌<◌}
+use Rattle.links.specs.declared.Answer.{Answer}
+use Rattle.links.specs.declared.Refusal.{Refusal}
+use Rattle.pb_adv.specs.declared.Frame.{Frame}
+use Rattle.pb_adv.specs.declared.FrameRefusal.{FrameRefusal}
+use Rattle.std.specs.Prelude.{Result, Ok, Err}
 use mathlib.Core.Bool.{Bool, true, false, false≢true}
 use mathlib.Core.List.{List, [], ◌∷◌, ◌++◌, append_assoc, append-nil}
 use mathlib.Core.Path.{◌≡◌, refl, sym, ap, ◌∙◌, subst}
@@ -15,8 +20,7 @@ use Rattle.transactions.specs.Numbers.{is_socket, socket_place}
 use Rattle.transactions.specs.declared.Socket.{Socket}
 use Rattle.pb_adv.specs.Frame.{link_id, parsed}
 use Rattle.pb_adv.specs.Tables.{malformed}
-use Rattle.pb_adv.specs.declared.Parsed.{Parsed}
-use Rattle.pb_adv.specs.declared.Parsed.TheVariants as P
+use Rattle.pb_adv.specs.declared.Frame.TheVariants as P
 use Rattle.pb_adv.proofs.Tables.{IsFrame, start, acknowledgement, continuation, opens, acks, closes, Reads, no-frame, unknown, frame, reads}
 use Rattle.links.specs.Links.{End, provisioner, device, side_of, blank_with, in_use, find, told}
 use Rattle.links.specs.Station.{Station, no_link, get_link, received, is_found, local_open}
@@ -28,7 +32,6 @@ use Rattle.links.specs.declared.Side.{Side}
 use Rattle.links.specs.declared.Side.TheVariants.{Provisioner, Device}
 use Rattle.links.specs.declared.LinkState.TheVariants as S
 use Rattle.links.specs.declared.Link.{Link}
-use Rattle.links.specs.declared.Answer.{Answer}
 use Rattle.links.specs.declared.Answer.TheVariants as A
 use Rattle.links.proofs.Interleaving.{after-append, before-each-snoc}
 use Rattle.links.proofs.Lens.{InPlace, same_use, unused}
@@ -66,22 +69,22 @@ now end σ socket id past c e = record { before = past; since = []; split = refl
 
 -- ---- octets received: an Open that comes to a device
 
-abbrev is_open_frame : Parsed → Bool
-is_open_frame (P.Segment s) = false
-is_open_frame (P.Acknowledgement id t) = false
-is_open_frame (P.Open id uuid) = true
-is_open_frame (P.Ack id) = false
-is_open_frame (P.Close id reason) = false
-is_open_frame (P.Refused r) = false
+abbrev is_open_frame : Result Frame FrameRefusal → Bool
+is_open_frame (Ok (P.Segment s)) = false
+is_open_frame (Ok (P.Acknowledgement id t)) = false
+is_open_frame (Ok (P.Open id uuid)) = true
+is_open_frame (Ok (P.Ack id)) = false
+is_open_frame (Ok (P.Close id reason)) = false
+is_open_frame (Err r) = false
 
-no-open : {B : Type 0} (p : Parsed) (id uuid : ℕ) → is_open_frame p ≡ false → p ≡ P.Open id uuid → B
+no-open : {B : Type 0} (p : Result Frame FrameRefusal) (id uuid : ℕ) → is_open_frame p ≡ false → p ≡ Ok (P.Open id uuid) → B
 no-open p id uuid n e = absurd (false≢true (sym n ∙ ap is_open_frame e))
 
 -- what an Open is by its octets
-is_open : (f : List ℕ) (id uuid : ℕ) (own : List ℕ) → parsed f ≡ P.Open id uuid → part f uuid 16 ≡ own → IsOpen id own f
+is_open : (f : List ℕ) (id uuid : ℕ) (own : List ℕ) → parsed f ≡ Ok (P.Open id uuid) → part f uuid 16 ≡ own → IsOpen id own f
 is_open f id uuid own e u = of (parsed f) (reads f) e
   where
-    by-frame : (p : Parsed) → IsFrame f p → malformed f ≡ false → p ≡ P.Open id uuid → IsOpen id own f
+    by-frame : (p : Result Frame FrameRefusal) → IsFrame f p → malformed f ≡ false → p ≡ Ok (P.Open id uuid) → IsOpen id own f
     by-frame p (start k s) m e = no-open _ id uuid refl e
     by-frame p (acknowledgement k) m e = no-open _ id uuid refl e
     by-frame p (continuation k h) m e = no-open _ id uuid refl e
@@ -92,7 +95,7 @@ is_open f id uuid own e u = of (parsed f) (reads f) e
     by-frame p (acks k h) m e = no-open _ id uuid refl e
     by-frame p (closes k h) m e = no-open _ id uuid refl e
 
-    of : (p : Parsed) → Reads f p → p ≡ P.Open id uuid → IsOpen id own f
+    of : (p : Result Frame FrameRefusal) → Reads f p → p ≡ Ok (P.Open id uuid) → IsOpen id own f
     of p (no-frame m) e = no-open _ id uuid refl e
     of p (unknown m n) e = no-open _ id uuid refl e
     of p (frame m n r) e = by-frame p r m e
@@ -105,8 +108,8 @@ abbrev own_of : End → List ℕ
 own_of provisioner = []
 own_of (device own) = own
 
-opened-by-frame : (end : End) (σ : Station) (socket : Socket) (past : List Operation) (f own : List ℕ) (id uuid : ℕ) → end ≡ device own → parsed f ≡ P.Open id uuid
-    → part f uuid 16 ≡ own → (received end (after_all end σ past) f).0 ≡ A.Opened → Opened end σ socket id (past ++ (receiving f ∷ []))
+opened-by-frame : (end : End) (σ : Station) (socket : Socket) (past : List Operation) (f own : List ℕ) (id uuid : ℕ) → end ≡ device own → parsed f ≡ Ok (P.Open id uuid)
+    → part f uuid 16 ≡ own → (received end (after_all end σ past) f).0 ≡ Ok A.Opened → Opened end σ socket id (past ++ (receiving f ∷ []))
 opened-by-frame provisioner σ socket past f own id uuid is e u a = absurd (false≢true (ap is_device is))
 opened-by-frame (device mine) σ socket past f own id uuid is e u a =
     (f, is_open f id uuid mine e (u ∙ sym (ap own_of is)), now (device mine) σ socket id past (receiving f) (ap told a))
@@ -145,20 +148,20 @@ module _ (end : End) (σ : Station) (socket : Socket) (numbered : is_socket sock
         (λ right state_good below _ q. by-step (λ r. (received end (after past) f).0 ≡ r.0 → IfUsed (past ++ (receiving f ∷ [])) r.1.link) end (get_link s (after past)) f (parsed f)
         (λ own id uuid is e a. opened-use own id uuid is e a (openings own (get_link s (after past)) f id uuid))
         (λ _. goes_on past (receiving f) _ i (frame-step-keeps end (after past) f s o right state_good below).in_place)
-        (ap (λ (r : Answer × Station). r.0) q))
+        (ap (λ (r : Result Answer Refusal × Station). r.0) q))
       where
-        opened-use : (own : List ℕ) (id uuid : ℕ) → end ≡ device own → parsed f ≡ P.Open id uuid → {r : Answer × OneLink} → (received end (after past) f).0 ≡ r.0
+        opened-use : (own : List ℕ) (id uuid : ℕ) → end ≡ device own → parsed f ≡ Ok (P.Open id uuid) → {r : Result Answer Refusal × OneLink} → (received end (after past) f).0 ≡ r.0
             → Opens own (get_link s (after past)) f id uuid r → IfUsed (past ++ (receiving f ∷ [])) r.1.link
         opened-use own id uuid is e a (refuses r n q) = rw q (goes_on past (receiving f) _ i (same_place (get_link s (after past)).link))
         opened-use own id uuid is e a (finds q) = rw q (goes_on past (receiving f) _ i (same_place (get_link s (after past)).link))
         opened-use own id uuid is e a (begins u n q) =
-            rw q (λ _. opened-by-frame end σ socket past f own id uuid is e u (a ∙ ap (λ (r : Answer × OneLink). r.0) q))
+            rw q (λ _. opened-by-frame end σ socket past f own id uuid is e u (a ∙ ap (λ (r : Result Answer Refusal × OneLink). r.0) q))
 
     local-use : (w : Socket) (id : ℕ) → side_of end ≡ Provisioner → IfUsed (past ++ (opening w id ∷ [])) (get_or (local_open (side_of end) (after past).links w id).1 s no_link)
     unfolding get_link
     local-use w id offered = of (open-calls (side_of end) (after past).links w id)
       where
-        of : Calls (side_of end) (after past).links w (is_found (find (after past).links id) ≡ false) A.Done (blank_with (side_of end) S.Opening id) (local_open (side_of end) (after past).links w id)
+        of : Calls (side_of end) (after past).links w (is_found (find (after past).links id) ≡ false) (Ok A.Done) (blank_with (side_of end) S.Opening id) (local_open (side_of end) (after past).links w id)
             → IfUsed (past ++ (opening w id ∷ [])) (get_or (local_open (side_of end) (after past).links w id).1 s no_link)
         of (refusal q e) = rw e (goes_on past _ _ i (same_place (get_or (after past).links s no_link)))
         of (written r g u e) =
@@ -166,7 +169,7 @@ module _ (end : End) (σ : Station) (socket : Socket) (numbered : is_socket sock
             (λ q. let p : socket_place w ≡ s = eqb-true (socket_place w) s q in
             let same : w ≡ socket = sym (socket-at w (length (after past).links) r) ∙ ap socket_at p ∙ socket-at socket (length σ.links) numbered in
             let below : s < length (after past).links = rw p at (place-below w (length (after past).links) r) in
-            let done : told (local_open (side_of end) (after past).links w id).0 ≡ answered "done" [] = ap (λ (r : Answer × List Link). told r.0) e in
+            let done : told (local_open (side_of end) (after past).links w id).0 ≡ answered "done" [] = ap (λ (r : Result Answer Refusal × List Link). told r.0) e in
             rw (e, p, get_or-set_same (after past).links s (blank_with (side_of end) S.Opening id) no_link below)
             (λ _. subst (λ (z : Socket). Opened end σ socket id (past ++ (opening z id ∷ []))) (sym same)
             (opened-locally end σ socket past id offered (subst (λ (z : Socket). told (local_open (side_of end) (after past).links z id).0 ≡ answered "done" []) same done))))

@@ -1,5 +1,9 @@
 -- The promises of `specs/Promises.antt`.
 use Prim.Native.Nat.{ℕ, ◌*◌, ◌<◌}
+use Rattle.links.specs.declared.Answer.{Answer}
+use Rattle.pb_adv.specs.declared.Frame.{Frame}
+use Rattle.pb_adv.specs.declared.FrameRefusal.{FrameRefusal}
+use Rattle.std.specs.Prelude.{Option, Some, None, Result, Ok, Err}
 use native.Mathlib.Omega.{arith}
 use mathlib.Core.Bool.{Bool, true, false, not, false≢true}
 use mathlib.Core.List.{List, [], ◌∷◌}
@@ -16,8 +20,7 @@ use Rattle.octets.proofs.Tests.{cases, both_hold}
 use Rattle.transactions.specs.Numbers.{is_socket, socket_place}
 use Rattle.pb_adv.specs.Frame.{parsed}
 use Rattle.transactions.specs.declared.Socket.{Socket}
-use Rattle.pb_adv.specs.declared.Parsed.{Parsed}
-use Rattle.pb_adv.specs.declared.Parsed.TheVariants as P
+use Rattle.pb_adv.specs.declared.Frame.TheVariants as P
 use Rattle.links.specs.Links.{End, provisioner, device, side_of, blank, blank_with, find, refusal_number, told}
 use Rattle.links.specs.Good.{good_link, good}
 use Rattle.links.specs.Segments.{OneLink}
@@ -30,11 +33,8 @@ use Rattle.links.specs.declared.Side.TheVariants.{Provisioner, Device}
 use Rattle.links.specs.declared.LinkState.{LinkState}
 use Rattle.links.specs.declared.LinkState.TheVariants as S
 use Rattle.links.specs.declared.Link.{Link}
-use Rattle.links.specs.declared.Found.{Found}
-use Rattle.links.specs.declared.Found.TheVariants.{At, Nowhere}
 use Rattle.links.specs.declared.Refusal.{Refusal}
 use Rattle.links.specs.declared.Refusal.TheVariants as R
-use Rattle.links.specs.declared.Answer.{Answer}
 use Rattle.links.specs.declared.Answer.TheVariants as A
 use Rattle.links.proofs.Lens.{Sized, right-sized, right-one, right-as, put-room, get-put, get-put-other, put-get, found_at, found_nowhere, apart-sym, same_use, unused, all-at, good-out, good-get, good-apart, good-set, good-put, part-size}
 use Rattle.links.proofs.Local.{Calls, refusal, written, open-calls, sending, send-calls, close-calls, open-count, send-count, close-count}
@@ -51,67 +51,67 @@ is_refused (answered word values) = false
 -- ---- what the receiving call does
 
 -- what a frame does at the link that it is for, by the end
-abbrev pub step_of : End → OneLink → List ℕ → Parsed → Answer × OneLink
-step_of end x f (P.Segment s) = frame_step (side_of end) x x.link.state f (P.Segment s)
-step_of end x f (P.Acknowledgement id t) = frame_step (side_of end) x x.link.state f (P.Acknowledgement id t)
-step_of provisioner x f (P.Open id uuid) = frame_step Provisioner x x.link.state f (P.Open id uuid)
-step_of (device own) x f (P.Open id uuid) = open_step own x f id uuid
-step_of end x f (P.Ack id) = frame_step (side_of end) x x.link.state f (P.Ack id)
-step_of end x f (P.Close id reason) = frame_step (side_of end) x x.link.state f (P.Close id reason)
-step_of end x f (P.Refused r) = frame_step (side_of end) x x.link.state f (P.Refused r)
+abbrev pub step_of : End → OneLink → List ℕ → Result Frame FrameRefusal → Result Answer Refusal × OneLink
+step_of end x f (Ok (P.Segment s)) = frame_step (side_of end) x x.link.state f (Ok (P.Segment s))
+step_of end x f (Ok (P.Acknowledgement id t)) = frame_step (side_of end) x x.link.state f (Ok (P.Acknowledgement id t))
+step_of provisioner x f (Ok (P.Open id uuid)) = frame_step Provisioner x x.link.state f (Ok (P.Open id uuid))
+step_of (device own) x f (Ok (P.Open id uuid)) = open_step own x f id uuid
+step_of end x f (Ok (P.Ack id)) = frame_step (side_of end) x x.link.state f (Ok (P.Ack id))
+step_of end x f (Ok (P.Close id reason)) = frame_step (side_of end) x x.link.state f (Ok (P.Close id reason))
+step_of end x f (Err r) = frame_step (side_of end) x x.link.state f (Err r)
 
 -- whatever holds of an Open at a device's link, and of a frame at its link, holds of it
-pub by-step : (H : Answer × OneLink → Type 0) (end : End) (x : OneLink) (f : List ℕ) (p : Parsed)
-    → ((own : List ℕ) (id uuid : ℕ) → end ≡ device own → p ≡ P.Open id uuid → H (open_step own x f id uuid))
+pub by-step : (H : Result Answer Refusal × OneLink → Type 0) (end : End) (x : OneLink) (f : List ℕ) (p : Result Frame FrameRefusal)
+    → ((own : List ℕ) (id uuid : ℕ) → end ≡ device own → p ≡ Ok (P.Open id uuid) → H (open_step own x f id uuid))
     → H (frame_step (side_of end) x x.link.state f p) → H (step_of end x f p)
-by-step H end x f (P.Segment s) o h = h
-by-step H end x f (P.Acknowledgement id t) o h = h
-by-step H provisioner x f (P.Open id uuid) o h = h
-by-step H (device own) x f (P.Open id uuid) o h = o own id uuid refl refl
-by-step H end x f (P.Ack id) o h = h
-by-step H end x f (P.Close id reason) o h = h
-by-step H end x f (P.Refused r) o h = h
+by-step H end x f (Ok (P.Segment s)) o h = h
+by-step H end x f (Ok (P.Acknowledgement id t)) o h = h
+by-step H provisioner x f (Ok (P.Open id uuid)) o h = h
+by-step H (device own) x f (Ok (P.Open id uuid)) o h = o own id uuid refl refl
+by-step H end x f (Ok (P.Ack id)) o h = h
+by-step H end x f (Ok (P.Close id reason)) o h = h
+by-step H end x f (Err r) o h = h
 
-pub provisioner-step : (x : OneLink) (f : List ℕ) (p : Parsed) → step_of provisioner x f p ≡ frame_step Provisioner x x.link.state f p
-provisioner-step x f (P.Segment s) = refl
-provisioner-step x f (P.Acknowledgement id t) = refl
-provisioner-step x f (P.Open id uuid) = refl
-provisioner-step x f (P.Ack id) = refl
-provisioner-step x f (P.Close id reason) = refl
-provisioner-step x f (P.Refused r) = refl
+pub provisioner-step : (x : OneLink) (f : List ℕ) (p : Result Frame FrameRefusal) → step_of provisioner x f p ≡ frame_step Provisioner x x.link.state f p
+provisioner-step x f (Ok (P.Segment s)) = refl
+provisioner-step x f (Ok (P.Acknowledgement id t)) = refl
+provisioner-step x f (Ok (P.Open id uuid)) = refl
+provisioner-step x f (Ok (P.Ack id)) = refl
+provisioner-step x f (Ok (P.Close id reason)) = refl
+provisioner-step x f (Err r) = refl
 
 -- a step of the link at a place
-abbrev pub placed : Station → ℕ → Answer × OneLink → Answer × Station
+abbrev pub placed : Station → ℕ → Result Answer Refusal × OneLink → Result Answer Refusal × Station
 placed σ s q = (q.0, put_link s q.1 σ)
 
 module _ (end : End) (σ : Station) (f : List ℕ) where
   -- it refuses and changes nothing, or a link takes a step
-  pub data Does (p : Parsed) (r : Answer × Station) : Type 0 where
-    refuses : (a : Refusal) → r ≡ (A.Refused a, σ) → Does p r
-    steps : (s : ℕ) → is_right end σ ≡ true → good (side_of end) σ.links ≡ true → s < length σ.links → addressed end σ.links p ≡ At s
+  pub data Does (p : Result Frame FrameRefusal) (r : Result Answer Refusal × Station) : Type 0 where
+    refuses : (a : Refusal) → r ≡ (Err a, σ) → Does p r
+    steps : (s : ℕ) → is_right end σ ≡ true → good (side_of end) σ.links ≡ true → s < length σ.links → addressed end σ.links p ≡ Some s
         → r ≡ placed σ s (step_of end (get_link s σ) f p) → Does p r
 
   module _ (right : is_right end σ ≡ true) (state_good : good (side_of end) σ.links ≡ true) where
     -- by the record that its Link ID finds
-    does_at : (p : Parsed) → ((x : OneLink) → frame_step (side_of end) x x.link.state f p ≡ step_of end x f p) → (id : ℕ) → addressed end σ.links p ≡ find σ.links id
-        → (o : Found) → find σ.links id ≡ o → Does p (at_socket (side_of end) σ o f p)
-    does_at p t id e Nowhere q = refuses R.UnknownLink refl
-    does_at p t id e (At s) q = steps s right state_good (found_at σ.links id s q).0 (e ∙ q) (ap (placed σ s) (t (get_link s σ)))
+    does_at : (p : Result Frame FrameRefusal) → ((x : OneLink) → frame_step (side_of end) x x.link.state f p ≡ step_of end x f p) → (id : ℕ) → addressed end σ.links p ≡ find σ.links id
+        → (o : Option ℕ) → find σ.links id ≡ o → Does p (at_socket (side_of end) σ o f p)
+    does_at p t id e None q = refuses R.UnknownLink refl
+    does_at p t id e (Some s) q = steps s right state_good (found_at σ.links id s q).0 (e ∙ q) (ap (placed σ s) (t (get_link s σ)))
 
 does-open : (end : End) (σ : Station) (f : List ℕ) → is_right end σ ≡ true → good (side_of end) σ.links ≡ true → (id uuid : ℕ)
-    → Does end σ f (P.Open id uuid) (on_open end σ f id uuid)
-does-open provisioner σ f right state_good id uuid = does_at provisioner σ f right state_good (P.Open id uuid) (λ x. refl) id refl (find σ.links id) refl
+    → Does end σ f (Ok (P.Open id uuid)) (on_open end σ f id uuid)
+does-open provisioner σ f right state_good id uuid = does_at provisioner σ f right state_good (Ok (P.Open id uuid)) (λ x. refl) id refl (find σ.links id) refl
 does-open (device own) σ f right state_good id uuid = steps 0 right state_good (omega (arith, right-one own σ right)) refl refl
 
 module _ (end : End) (σ : Station) (f : List ℕ) where
   module _ (right : is_right end σ ≡ true) (state_good : good (side_of end) σ.links ≡ true) where
-    does-frame : (p : Parsed) → Does end σ f p (on_frame end σ f p)
-    does-frame (P.Segment s) = does_at end σ f right state_good (P.Segment s) (λ x. refl) s.id refl (find σ.links s.id) refl
-    does-frame (P.Acknowledgement id t) = does_at end σ f right state_good (P.Acknowledgement id t) (λ x. refl) id refl (find σ.links id) refl
-    does-frame (P.Open id uuid) = does-open end σ f right state_good id uuid
-    does-frame (P.Ack id) = does_at end σ f right state_good (P.Ack id) (λ x. refl) id refl (find σ.links id) refl
-    does-frame (P.Close id reason) = does_at end σ f right state_good (P.Close id reason) (λ x. refl) id refl (find σ.links id) refl
-    does-frame (P.Refused r) = refuses (frame_refusal r) refl
+    does-frame : (p : Result Frame FrameRefusal) → Does end σ f p (on_frame end σ f p)
+    does-frame (Ok (P.Segment s)) = does_at end σ f right state_good (Ok (P.Segment s)) (λ x. refl) s.id refl (find σ.links s.id) refl
+    does-frame (Ok (P.Acknowledgement id t)) = does_at end σ f right state_good (Ok (P.Acknowledgement id t)) (λ x. refl) id refl (find σ.links id) refl
+    does-frame (Ok (P.Open id uuid)) = does-open end σ f right state_good id uuid
+    does-frame (Ok (P.Ack id)) = does_at end σ f right state_good (Ok (P.Ack id)) (λ x. refl) id refl (find σ.links id) refl
+    does-frame (Ok (P.Close id reason)) = does_at end σ f right state_good (Ok (P.Close id reason)) (λ x. refl) id refl (find σ.links id) refl
+    does-frame (Err r) = refuses (frame_refusal r) refl
 
   pub does : Does end σ f (parsed f) (received end σ f)
   unfolding received
@@ -170,24 +170,24 @@ module _ (end : End) (σ : Station) (f : List ℕ) (s : ℕ) (o : Octets f) (rig
       (let k = frame-step-keeps in record { part = k.part; good = good-put (side_of end) σ s _ state_good k.link k.in_place })
 
 -- a refusal but 8 leaves the link
-refused-leaves : (side : Side) (x : OneLink) (f : List ℕ) (n : ℕ) → n ≢ 8 → (a : Answer) → told a ≡ refused n → leaves side x f a ≡ x
-refused-leaves side x f n h (A.Refused r) e = let q : refusal_number r ≡ n = cc in rw (ne_eqb (refusal_number r) 8 (λ z. h (sym q ∙ z)))
-refused-leaves side x f n h A.AcknowledgeAgain e = refl
-refused-leaves side x f n h A.Kept e = other-told _ _ refl e
-refused-leaves side x f n h A.Repeat e = refl
-refused-leaves side x f n h (A.Delivered m t) e = other-told _ _ refl e
-refused-leaves side x f n h A.Opened e = other-told _ _ refl e
-refused-leaves side x f n h A.Already e = refl
-refused-leaves side x f n h (A.Closed reason) e = other-told _ _ refl e
-refused-leaves side x f n h A.Acknowledged e = other-told _ _ refl e
-refused-leaves side x f n h (A.Sending t m) e = refl
-refused-leaves side x f n h A.Done e = refl
+refused-leaves : (side : Side) (x : OneLink) (f : List ℕ) (n : ℕ) → n ≢ 8 → (a : Result Answer Refusal) → told a ≡ refused n → leaves side x f a ≡ x
+refused-leaves side x f n h (Err r) e = let q : refusal_number r ≡ n = cc in rw (ne_eqb (refusal_number r) 8 (λ z. h (sym q ∙ z)))
+refused-leaves side x f n h (Ok A.AcknowledgeAgain) e = refl
+refused-leaves side x f n h (Ok A.Kept) e = other-told _ _ refl e
+refused-leaves side x f n h (Ok A.Repeat) e = refl
+refused-leaves side x f n h (Ok (A.Delivered m t)) e = other-told _ _ refl e
+refused-leaves side x f n h (Ok A.Opened) e = other-told _ _ refl e
+refused-leaves side x f n h (Ok A.Already) e = refl
+refused-leaves side x f n h (Ok (A.Closed reason)) e = other-told _ _ refl e
+refused-leaves side x f n h (Ok A.Acknowledged) e = other-told _ _ refl e
+refused-leaves side x f n h (Ok (A.Sending t m)) e = refl
+refused-leaves side x f n h (Ok A.Done) e = refl
 
 pub receiving-refusal-keeps : ReceivingRefusalKeeps
 receiving-refusal-keeps end σ f n e h = of (does end σ f)
   where
     of : Does end σ f (parsed f) (received end σ f) → (received end σ f).1 ≡ σ
-    of (refuses a q) = ap (λ (r : Answer × Station). r.1) q
+    of (refuses a q) = ap (λ (r : Result Answer Refusal × Station). r.1) q
     of (steps s right state_good below at q) =
         receiving-leaves end σ f right state_good s (place-for end σ.links f s at)
         ∙ ap (λ (y : OneLink). put_link s y σ) (refused-leaves (side_of end) (get_link s σ) f n h (received end σ f).0 e) ∙ put-get s σ (omega (arith, right-sized end σ right))
@@ -195,17 +195,17 @@ receiving-refusal-keeps end σ f n e h = of (does end σ f)
 pub receiving-keeps-good : ReceivingKeepsGood
 receiving-keeps-good end σ f o h = of (does end σ f)
   where
-    of : {r : Answer × Station} → Does end σ f (parsed f) r → good (side_of end) r.1.links ≡ true
+    of : {r : Result Answer Refusal × Station} → Does end σ f (parsed f) r → good (side_of end) r.1.links ≡ true
     of (refuses a q) = rw q h
     of (steps s right state_good below at q) = rw q (stepped-keeps end σ f s o right state_good below).good
 
 -- what holds of a link, and of it after the step of a frame that is for it, holds of it after any call
 pub received-at : (end : End) (σ : Station) (f : List ℕ) → Octets f → (s : ℕ) (P : OneLink → Type 0) → P (get_link s σ)
-    → (is_right end σ ≡ true → good (side_of end) σ.links ≡ true → s < length σ.links → addressed end σ.links (parsed f) ≡ At s
+    → (is_right end σ ≡ true → good (side_of end) σ.links ≡ true → s < length σ.links → addressed end σ.links (parsed f) ≡ Some s
     → received end σ f ≡ placed σ s (step_of end (get_link s σ) f (parsed f)) → P (stepped end σ f s)) → P (get_link s (received end σ f).1)
 received-at end σ f o s P p h = of (does end σ f)
   where
-    own : is_right end σ ≡ true → good (side_of end) σ.links ≡ true → s < length σ.links → addressed end σ.links (parsed f) ≡ At s
+    own : is_right end σ ≡ true → good (side_of end) σ.links ≡ true → s < length σ.links → addressed end σ.links (parsed f) ≡ Some s
         → received end σ f ≡ placed σ s (step_of end (get_link s σ) f (parsed f)) → P (get_link s (received end σ f).1)
     own right state_good below at q =
         rw (q, get-put (length σ.links) σ refl (right-sized end σ right) s below (stepped end σ f s) (stepped-keeps end σ f s o right state_good below).part) (h right state_good below at q)
@@ -215,7 +215,7 @@ received-at end σ f o s P p h = of (does end σ f)
     of (steps j right state_good below at q) =
         cases (eqb j s)
         (λ e. let z : j ≡ s = eqb-true j s e in
-        own right state_good (rw (← z) below) (at ∙ ap At z) (q ∙ ap (λ (i : ℕ). placed σ i (step_of end (get_link i σ) f (parsed f))) z))
+        own right state_good (rw (← z) below) (at ∙ ap Some z) (q ∙ ap (λ (i : ℕ). placed σ i (step_of end (get_link i σ) f (parsed f))) z))
         (λ e. rw (q, get-put-other (length σ.links) σ refl (right-sized end σ right) j below (stepped end σ f j) (stepped-keeps end σ f j o right state_good below).part s (eqb-false j s e)) p)
 
 pub receiving-leaves-others : ReceivingLeavesOthers
@@ -226,14 +226,14 @@ pub receiving-keeps-count : (end : End) (σ : Station) (f : List ℕ) → length
 unfolding put_link
 receiving-keeps-count end σ f = of (does end σ f)
   where
-    of : {r : Answer × Station} → Does end σ f (parsed f) r → length r.1.links ≡ length σ.links
+    of : {r : Result Answer Refusal × Station} → Does end σ f (parsed f) r → length r.1.links ≡ length σ.links
     of (refuses a q) = rw q
     of (steps s right state_good below at q) = rw q (length-set σ.links s _)
 
 pub receiving-keeps-size : (end : End) (σ : Station) (f : List ℕ) → Octets f → Sized σ → Sized (received end σ f).1
 receiving-keeps-size end σ f o size = rw (receiving-keeps-count end σ f) (of (does end σ f))
   where
-    of : {r : Answer × Station} → Does end σ f (parsed f) r → length r.1.area ≡ 1469 * length σ.links
+    of : {r : Result Answer Refusal × Station} → Does end σ f (parsed f) r → length r.1.area ≡ 1469 * length σ.links
     of (refuses a q) = rw q size
     of (steps s right state_good below at q) =
         rw q (put-room (length σ.links) σ refl (right-sized end σ right) s below (stepped end σ f s) (stepped-keeps end σ f s o right state_good below).part)
@@ -262,23 +262,23 @@ is_open_lem S.Free e = absurd (false≢true e)
 is_open_lem S.Opening e = absurd (false≢true e)
 is_open_lem S.Open e = refl
 
-not_found : (o : Found) → is_found o ≡ false → o ≡ Nowhere
-not_found (At s) e = absurd (false≢true (sym e))
-not_found Nowhere e = refl
+not_found : (o : Option ℕ) → is_found o ≡ false → o ≡ None
+not_found (Some s) e = absurd (false≢true (sym e))
+not_found None e = refl
 
 -- a local call that writes l where C is so, and leaves a good state with it
-module _ (side : Side) (s : Socket) (call : List Link → Answer × List Link) (C : List Link → Type 0) (a : List Link → Answer) (l : List Link → Link)
+module _ (side : Side) (s : Socket) (call : List Link → Result Answer Refusal × List Link) (C : List Link → Type 0) (a : List Link → Result Answer Refusal) (l : List Link → Link)
     (d : (ls : List Link) → Calls side ls s (C ls) (a ls) (l ls) (call ls)) (accepts : (ls : List Link) → is_refused (told (a ls)) ≡ false)
     (good-with : (ls : List Link) → is_socket s (length ls) ≡ true → good side ls ≡ true → C ls → good side (with_link ls s (l ls)) ≡ true) where
-  kept : (ls : List Link) (n : ℕ) {r : Answer × List Link} → Calls side ls s (C ls) (a ls) (l ls) r → told r.0 ≡ refused n → r.1 ≡ ls
-  kept ls n (refusal q e) h = ap (λ (r : Answer × List Link). r.1) e
-  kept ls n (written r g c e) h = absurd (false≢true (sym (accepts ls) ∙ sym (ap (λ (r : Answer × List Link). is_refused (told r.0)) e) ∙ ap is_refused h))
+  kept : (ls : List Link) (n : ℕ) {r : Result Answer Refusal × List Link} → Calls side ls s (C ls) (a ls) (l ls) r → told r.0 ≡ refused n → r.1 ≡ ls
+  kept ls n (refusal q e) h = ap (λ (r : Result Answer Refusal × List Link). r.1) e
+  kept ls n (written r g c e) h = absurd (false≢true (sym (accepts ls) ∙ sym (ap (λ (r : Result Answer Refusal × List Link). is_refused (told r.0)) e) ∙ ap is_refused h))
 
-  kept-good : (ls : List Link) {r : Answer × List Link} → Calls side ls s (C ls) (a ls) (l ls) r → good side ls ≡ true → good side r.1 ≡ true
+  kept-good : (ls : List Link) {r : Result Answer Refusal × List Link} → Calls side ls s (C ls) (a ls) (l ls) r → good side ls ≡ true → good side r.1 ≡ true
   kept-good ls (refusal q e) h = rw e h
   kept-good ls (written r g c e) h = rw e (good-with ls r g c)
 
-  left : (ls : List Link) (j : ℕ) {r : Answer × List Link} → Calls side ls s (C ls) (a ls) (l ls) r → j ≢ socket_place s → get_or r.1 j no_link ≡ get_or ls j no_link
+  left : (ls : List Link) (j : ℕ) {r : Result Answer Refusal × List Link} → Calls side ls s (C ls) (a ls) (l ls) r → j ≢ socket_place s → get_or r.1 j no_link ≡ get_or ls j no_link
   left ls j (refusal q e) h = rw e
   left ls j (written r g c e) h = rw e (get_or-set_other ls (socket_place s) j (l ls) no_link h)
 
@@ -300,7 +300,7 @@ send-good side s ls right g e =
     good-set side ls (socket_place s) (sending side ls s) g (open_in side (sending side ls s) opened o.0 o.1 o.2) (same_use refl refl)
 
 -- an opening record with a Link ID that isn't in use
-open-good : (ls : List Link) (s id : ℕ) → find ls id ≡ Nowhere → good Provisioner ls ≡ true → good Provisioner (set ls s (blank_with Provisioner S.Opening id)) ≡ true
+open-good : (ls : List Link) (s id : ℕ) → find ls id ≡ None → good Provisioner ls ≡ true → good Provisioner (set ls s (blank_with Provisioner S.Opening id)) ≡ true
 open-good ls s id e g =
     let l = blank_with Provisioner S.Opening id in
     good-apart Provisioner ls s l g refl (λ j b d. apart-sym l (get_or ls j no_link) ∙ ap not (found_nowhere ls id e j))

@@ -1,5 +1,8 @@
 -- A right segment at its link, in a station whose other links are in any state that isn't bad; and what leaves a link alone.
 use Prim.Native.Nat.{ℕ, ◌<◌}
+use Rattle.links.specs.declared.Answer.{Answer}
+use Rattle.links.specs.declared.Refusal.{Refusal}
+use Rattle.std.specs.Prelude.{Some, Result}
 use mathlib.Core.Bool.{true}
 use mathlib.Core.List.{List}
 use mathlib.Core.Logic.{◌≢◌}
@@ -15,8 +18,6 @@ use Rattle.links.specs.Good.{good_last, good_half, good}
 use Rattle.links.specs.Segments.{OneLink, segment_step}
 use Rattle.links.specs.Station.{Station, get_link, put_link, frame_step, is_right, received}
 use Rattle.links.specs.declared.LinkState.TheVariants as S
-use Rattle.links.specs.declared.Found.TheVariants.{At}
-use Rattle.links.specs.declared.Answer.{Answer}
 use Rattle.links.proofs.Lens.{Sized, right-sized, right-as, part-size, put_count, put-room, get-put, get-put-other, find_at, good-out, good-get, good-put, same_use}
 use Rattle.links.proofs.Keep.{Keeps, step_keeps, open-out, open_in}
 
@@ -29,7 +30,7 @@ pub record OpenAt (end : End) (τ : Station) (s id : ℕ) : Type 0 where
   pub has_id : (get_link s τ).link.id ≡ id
 
 module _ (end : End) (τ : Station) (s id : ℕ) (a : OpenAt end τ s id) where
-  pub found : find τ.links id ≡ At s
+  pub found : find τ.links id ≡ Some s
   unfolding get_link
   found = find_at τ.links id s (good-out (side_of end) τ.links a.not_bad).1 a.below (rw (a.is_open, a.has_id) (eq-eqb id id refl))
 
@@ -38,7 +39,7 @@ module _ (end : End) (τ : Station) (s id : ℕ) (a : OpenAt end τ s id) where
 
   -- ---- one right segment
   module _ (t : TransactionNumber) (m : List ℕ) (k : ℕ) (asked : SegmentAsked m k) (number : sends (peer (side_of end)) t ≡ true) (f : List ℕ) (is : f ≡ segment_frame id t m k) where
-    abbrev pub taken : Answer × OneLink
+    abbrev pub taken : Result Answer Refusal × OneLink
     taken = segment_step (get_link s τ) t (header_of m k) (segment m k)
 
     pub goes : received end τ f ≡ (taken.0, put_link s taken.1 τ)

@@ -1,5 +1,9 @@
 -- The rows of the receiving table from 4 on, for a frame at its link.
 use Prim.Native.Nat.{ℕ, suc, ◌-◌, ◌/◌, ◌<◌}
+use Rattle.pb_adv.specs.declared.Frame.{Frame}
+use Rattle.pb_adv.specs.declared.FrameRefusal.{FrameRefusal}
+use Rattle.std.specs.Prelude.{Option, Some, None, Result, Ok, Err}
+use Rattle.transactions.specs.declared.TransactionNumber.{TransactionNumber}
 use native.Mathlib.Omega.{arith}
 use mathlib.Core.Bool.{true, false, ◌&&◌, ◌||◌, cond, not, false≢true}
 use mathlib.Core.List.{List, [], ◌∷◌, ◌++◌}
@@ -19,8 +23,7 @@ use Rattle.pb_adv.specs.Frame.{link_id, number_of, kind_of, high_bits}
 use Rattle.pb_adv.specs.Tables.{is_kind, is_control, is_segment, length_in}
 use Rattle.pb_adv.specs.declared.SegmentHeader.{SegmentHeader}
 use Rattle.pb_adv.specs.declared.SegmentHeader.TheVariants.{Start, Continuation}
-use Rattle.pb_adv.specs.declared.Parsed.{Parsed}
-use Rattle.pb_adv.specs.declared.Parsed.TheVariants as P
+use Rattle.pb_adv.specs.declared.Frame.TheVariants as P
 use Rattle.pb_adv.proofs.Tables.{IsFrame, start, acknowledgement, continuation, opens, acks, closes}
 use Rattle.links.specs.Marks.{is_marked, with_mark, all_marked}
 use Rattle.links.specs.Links.{peer, End, provisioner, device, side_of, sends, is_last, in_use, find_from, told}
@@ -32,11 +35,7 @@ use Rattle.links.specs.declared.Side.{Side}
 use Rattle.links.specs.declared.Side.TheVariants.{Provisioner, Device}
 use Rattle.links.specs.declared.LinkState.{LinkState}
 use Rattle.links.specs.declared.LinkState.TheVariants as S
-use Rattle.links.specs.declared.LastDelivered.{LastDelivered}
-use Rattle.links.specs.declared.LastDelivered.TheVariants as L
 use Rattle.links.specs.declared.HalfMessage.{HalfMessage}
-use Rattle.links.specs.declared.HalfReceived.{HalfReceived}
-use Rattle.links.specs.declared.HalfReceived.TheVariants as H
 use Rattle.links.specs.declared.Link.{Link}
 use Rattle.links.specs.declared.Refusal.TheVariants as R
 use Rattle.links.specs.declared.Answer.TheVariants as A
@@ -73,14 +72,14 @@ found_from k [] id = refl
 found_from k (l ∷ ls) id =
     rw (use-free l.state) (cases (not (is_free l.state) && eqb l.id id) (λ e. rw e) (λ e. rw e (found_from (suc k) ls id)))
 
-last-number : (last : LastDelivered) (f : List ℕ) → has_last_number last f ≡ is_last last (number_of f)
-last-number L.Nothing f = refl
-last-number (L.Number t) f = refl
+last-number : (last : Option TransactionNumber) (f : List ℕ) → has_last_number last f ≡ is_last last (number_of f)
+last-number None f = refl
+last-number (Some t) f = refl
 
 -- ---- the rows by parts
 
 -- of a segment at its link, by what is half-received
-abbrev pub segment_rows : OneLink → HalfReceived → List ℕ → List Row
+abbrev pub segment_rows : OneLink → Option HalfMessage → List ℕ → List Row
 segment_rows x half f =
     let h = message_of half f in
     reply "acknowledge again" [] (is_last_delivered x.link.last f)
@@ -138,19 +137,19 @@ module _ (x : OneLink) (h : HalfMessage) (k : ℕ) (d : List ℕ) (rest : List R
       (λ e. rw e)
 
 module _ (x : OneLink) (f : List ℕ) (rest : List Row) (awaited : is_last x.link.last (number_of f) ≡ false) where
-  start-rows : kind_of f ≡ 0 → (half : HalfReceived)
+  start-rows : kind_of f ≡ 0 → (half : Option HalfMessage)
       → first_of (segment_rows x half f ++ rest) ≡ some (told (on_half x half (number_of f) (Start (length_in f) (check_in f)) (part f 9 (length f - 9))).0)
-  start-rows k H.Nothing = rw (last-number x.link.last f, awaited, k) (entered-row x (begun (number_of f) (length_in f) (check_in f)) 0 (part f 9 (length f - 9)) rest (none-marked 0))
-  start-rows k (H.Message h) =
+  start-rows k None = rw (last-number x.link.last f, awaited, k) (entered-row x (begun (number_of f) (length_in f) (check_in f)) 0 (part f 9 (length f - 9)) rest (none-marked 0))
+  start-rows k (Some h) =
       cases (eqb h.number.0 (number_of f).0)
       (λ e. rw (last-number x.link.last f, awaited, e, k) (cases (eqb h.length (length_in f) && eqb h.check (check_in f))
       (λ u. rw u (offered-row x h 0 (part f 9 (length f - 9)) rest)) (λ u. rw u)))
       (λ e. rw (last-number x.link.last f, awaited, e, k) (entered-row x (begun (number_of f) (length_in f) (check_in f)) 0 (part f 9 (length f - 9)) rest (none-marked 0)))
 
-  continuation-rows : kind_of f ≡ 2 → (half : HalfReceived)
+  continuation-rows : kind_of f ≡ 2 → (half : Option HalfMessage)
       → first_of (segment_rows x half f ++ rest) ≡ some (told (on_half x half (number_of f) (Continuation (high_bits f)) (part f 6 (length f - 6))).0)
-  continuation-rows k H.Nothing = rw (last-number x.link.last f, awaited, k)
-  continuation-rows k (H.Message h) =
+  continuation-rows k None = rw (last-number x.link.last f, awaited, k)
+  continuation-rows k (Some h) =
       cases (eqb h.number.0 (number_of f).0)
       (λ e. rw (last-number x.link.last f, awaited, e, k) (offered-row x h (high_bits f) (part f 6 (length f - 6)) rest)) (λ e. rw (last-number x.link.last f, awaited, e, k))
 
@@ -174,7 +173,7 @@ module _ (f : List ℕ) (o : Octets f) where
     open-segment : is_segment f ≡ true → is_kind 1 f ≡ false → is_kind 3 f ≡ false → (header : SegmentHeader) (d : List ℕ)
         → (is_last x.link.last (number_of f) ≡ false
         → first_of (segment_rows x x.link.half f ++ other_rows side S.Open f) ≡ some (told (on_half x x.link.half (number_of f) header d).0))
-        → first_of (link_rows side x S.Open f) ≡ some (told (cond (sends (peer side) (number_of f)) (segment_step x (number_of f) header d) (A.Refused R.WrongDirection, x)).0)
+        → first_of (link_rows side x S.Open f) ≡ some (told (cond (sends (peer side) (number_of f)) (segment_step x (number_of f) header d) (Err R.WrongDirection, x)).0)
     unfolding segment_step
     open-segment s a c header d rows =
         rw (segment-direction s a c side) (cases (sends (peer side) (number_of f))
@@ -182,7 +181,7 @@ module _ (f : List ℕ) (o : Octets f) where
         (λ q. rw q))
 
     open-acknowledgement : kind_of f ≡ 1
-        → first_of (link_rows side x S.Open f) ≡ some (told (cond (sends side (number_of f)) (acknowledgement_step x (number_of f)) (A.Refused R.WrongDirection, x)).0)
+        → first_of (link_rows side x S.Open f) ≡ some (told (cond (sends side (number_of f)) (acknowledgement_step x (number_of f)) (Err R.WrongDirection, x)).0)
     unfolding acknowledgement_step
     open-acknowledgement k =
         rw (acknowledgement-direction k side) (cases (sends side (number_of f))
@@ -197,17 +196,17 @@ module _ (f : List ℕ) (o : Octets f) where
         of Device = rw (k, h)
 
     -- no other end has a link that is opening
-    opening-ack : good_as side S.Opening x.link ≡ true → kind_of f ≡ 3 → high_bits f ≡ 1 → first_of (link_rows side x S.Opening f) ≡ some (told A.Opened)
+    opening-ack : good_as side S.Opening x.link ≡ true → kind_of f ≡ 3 → high_bits f ≡ 1 → first_of (link_rows side x S.Opening f) ≡ some (told (Ok A.Opened))
     opening-ack good k h = of side good
       where
-        of : (side : Side) → good_as side S.Opening x.link ≡ true → first_of (link_rows side x S.Opening f) ≡ some (told A.Opened)
+        of : (side : Side) → good_as side S.Opening x.link ≡ true → first_of (link_rows side x S.Opening f) ≡ some (told (Ok A.Opened))
         of Provisioner g = rw (k, h)
         of Device g = absurd (false≢true g)
 
-    close-any : (state : LinkState) → kind_of f ≡ 3 → high_bits f ≡ 2 → first_of (link_rows side x state f) ≡ some (told (A.Closed (get_or f 6 0)))
+    close-any : (state : LinkState) → kind_of f ≡ 3 → high_bits f ≡ 2 → first_of (link_rows side x state f) ≡ some (told (Ok (A.Closed (get_or f 6 0))))
     close-any state k h = of side state
       where
-        of : (side : Side) (state : LinkState) → first_of (link_rows side x state f) ≡ some (told (A.Closed (get_or f 6 0)))
+        of : (side : Side) (state : LinkState) → first_of (link_rows side x state f) ≡ some (told (Ok (A.Closed (get_or f 6 0))))
         of Provisioner S.Free = rw (k, h)
         of Provisioner S.Opening = rw (k, h)
         of Provisioner S.Open = rw (k, h)
@@ -225,18 +224,18 @@ module _ (end : End) (x : OneLink) (link_good : good_link (side_of end) x.link �
   side = side_of end
 
   -- an Open, which 4 or 5 refuses
-  refused-open : kind_of f ≡ 3 → high_bits f ≡ 0 → (state : LinkState) → in_use state ≡ true → first_of (link_rows side x state f) ≡ some (told (frame_step side x state f (P.Open (link_id f) 6)).0)
+  refused-open : kind_of f ≡ 3 → high_bits f ≡ 0 → (state : LinkState) → in_use state ≡ true → first_of (link_rows side x state f) ≡ some (told (frame_step side x state f (Ok (P.Open (link_id f) 6))).0)
   unfolding frame_step
   refused-open k h state u = of end not_open state u
     where
       of : (end : End) → is_device_open end f ≡ false → (state : LinkState) → in_use state ≡ true
-          → first_of (link_rows (side_of end) x state f) ≡ some (told (frame_step (side_of end) x state f (P.Open (link_id f) 6)).0)
+          → first_of (link_rows (side_of end) x state f) ≡ some (told (frame_step (side_of end) x state f (Ok (P.Open (link_id f) 6))).0)
       of provisioner d S.Free u = absurd (false≢true u)
       of provisioner d S.Opening u = rw (k, h)
       of provisioner d S.Open u = rw (k, h)
       of (device own) d state u = absurd (false≢true (sym d ∙ control-open f k h))
 
-  pub at-state : (state : LinkState) → x.link.state ≡ state → in_use state ≡ true → (p : Parsed) → IsFrame f p
+  pub at-state : (state : LinkState) → x.link.state ≡ state → in_use state ≡ true → (p : Result Frame FrameRefusal) → IsFrame f p
       → first_of (link_rows side x state f) ≡ some (told (frame_step side x state f p).0)
   unfolding frame_step
   at-state S.Free e u p r = absurd (false≢true u)

@@ -1,5 +1,8 @@
 -- Document 01's receiving table, with request [1]'s rows of it, and the tables of the local calls (`specs/Tables.antt`).
 use Prim.Native.Nat.{ℕ, ◌*◌, ◌<◌}
+use Rattle.pb_adv.specs.declared.Frame.{Frame}
+use Rattle.pb_adv.specs.declared.FrameRefusal.{FrameRefusal}
+use Rattle.std.specs.Prelude.{Option, Some, None, Result, Ok}
 use native.Mathlib.Omega.{arith}
 use mathlib.Core.Bool.{Bool, true, false, ◌&&◌, ◌||◌, cond, not, false≢true}
 use mathlib.Core.List.{List, [], ◌∷◌}
@@ -16,8 +19,7 @@ use Rattle.octets.specs.Lengths.{is_length}
 use Rattle.transactions.specs.Numbers.{is_socket, socket_place}
 use Rattle.pb_adv.specs.Frame.{link_id, kind_of, high_bits, parsed}
 use Rattle.pb_adv.specs.Tables.{is_control, malformed, unknown_opcode}
-use Rattle.pb_adv.specs.declared.Parsed.{Parsed}
-use Rattle.pb_adv.specs.declared.Parsed.TheVariants as P
+use Rattle.pb_adv.specs.declared.Frame.TheVariants as P
 use Rattle.pb_adv.proofs.Tables.{IsFrame, start, acknowledgement, continuation, opens, acks, closes, Reads, no-frame, unknown, frame, reads}
 use Rattle.transactions.specs.declared.Socket.{Socket}
 use Rattle.links.specs.Links.{End, provisioner, device, side_of, in_use, find, told}
@@ -30,8 +32,6 @@ use Rattle.links.specs.declared.Side.TheVariants.{Provisioner, Device}
 use Rattle.links.specs.declared.LinkState.{LinkState}
 use Rattle.links.specs.declared.LinkState.TheVariants as S
 use Rattle.links.specs.declared.Link.{Link}
-use Rattle.links.specs.declared.Found.{Found}
-use Rattle.links.specs.declared.Found.TheVariants.{At, Nowhere}
 use Rattle.links.proofs.Lens.{right-sized, right-one, put-get, found_at, good-get}
 use Rattle.links.proofs.Local.{open-calls, send-calls, close-calls, written-by}
 use Rattle.links.proofs.Bad.{blank-said}
@@ -42,7 +42,7 @@ use Rattle.links.proofs.Rows.{use-free, open-others, found_from, link_rows, cont
 -- ---- the call
 
 -- a frame goes to the record of its Link ID, but for the Opens that come to a device
-pub goes : (end : End) (σ : Station) (f : List ℕ) (p : Parsed) → IsFrame f p → is_device_open end f ≡ false
+pub goes : (end : End) (σ : Station) (f : List ℕ) (p : Result Frame FrameRefusal) → IsFrame f p → is_device_open end f ≡ false
     → on_frame end σ f p ≡ at_socket (side_of end) σ (find σ.links (link_id f)) f p
 goes end σ f p (start k s) d = refl
 goes end σ f p (acknowledgement k) d = refl
@@ -53,11 +53,11 @@ goes end σ f p (acks k h) d = refl
 goes end σ f p (closes k h) d = refl
 
 -- an Open that comes to a device is judged by its one record
-data AtDevice (own : List ℕ) (f : List ℕ) : Parsed → Type 0 where
-  an_open : kind_of f ≡ 3 → high_bits f ≡ 0 → AtDevice own f (P.Open (link_id f) 6)
-  another : {p : Parsed} → is_control 0 f ≡ false → AtDevice own f p
+data AtDevice (own : List ℕ) (f : List ℕ) : Result Frame FrameRefusal → Type 0 where
+  an_open : kind_of f ≡ 3 → high_bits f ≡ 0 → AtDevice own f (Ok (P.Open (link_id f) 6))
+  another : {p : Result Frame FrameRefusal} → is_control 0 f ≡ false → AtDevice own f p
 
-at-device : (own f : List ℕ) (p : Parsed) → IsFrame f p → AtDevice own f p
+at-device : (own f : List ℕ) (p : Result Frame FrameRefusal) → IsFrame f p → AtDevice own f p
 at-device own f p (start k s) = another (rw k)
 at-device own f p (acknowledgement k) = another (rw k)
 at-device own f p (continuation k h) = another (rw k)
@@ -101,29 +101,29 @@ wrong-right (device own) σ =
 
 module _ (end : End) (σ : Station) (f : List ℕ) (o : Octets f) (state_good : good (side_of end) σ.links ≡ true) where
   -- by the record that its Link ID finds
-  at-found : (found : Found) → find σ.links (link_id f) ≡ found → is_device_open end f ≡ false → (p : Parsed) → IsFrame f p
+  at-found : (found : Option ℕ) → find σ.links (link_id f) ≡ found → is_device_open end f ≡ false → (p : Result Frame FrameRefusal) → IsFrame f p
       → first_of (refusal 3 (not (is_found found)) ∷ link_rows (side_of end) (link_found σ found) (link_found σ found).link.state f) ≡ some (told (at_socket (side_of end) σ found f p).0)
   unfolding get_link
-  at-found Nowhere e d p r = refl
-  at-found (At s) e d p r =
+  at-found None e d p r = refl
+  at-found (Some s) e d p r =
       let w = found_at σ.links (link_id f) s e in
       at-state end (get_link s σ) (good-get (side_of end) σ s state_good w.0) f o d (get_link s σ).link.state refl
       (both_hold {a = in_use (get_or σ.links s no_link).state} {b = eqb (get_or σ.links s no_link).id (link_id f)} w.1).0 p r
 
-by-frame : (end : End) (σ : Station) (f : List ℕ) → Octets f → is_right end σ ≡ true → good (side_of end) σ.links ≡ true → (p : Parsed) → IsFrame f p
+by-frame : (end : End) (σ : Station) (f : List ℕ) → Octets f → is_right end σ ≡ true → good (side_of end) σ.links ≡ true → (p : Result Frame FrameRefusal) → IsFrame f p
     → first_of (frame_rows end σ (link_found σ (place_for end σ.links f)) f) ≡ some (told (on_frame end σ f p).0)
 by-frame provisioner σ f o right g p r =
     rw (goes provisioner σ f p r refl, ← (found_from 0 σ.links (link_id f))) (at-found provisioner σ f o g (find σ.links (link_id f)) refl refl p r)
 by-frame (device own) σ f o right g p r = of p r (at-device own f p r)
   where
     -- by the record that it is judged by
-    judged : (p : Parsed) {b : Bool} → is_control 0 f ≡ b
-        → first_of (frame_rows (device own) σ (link_found σ (cond b (At 0) (find σ.links (link_id f)))) f) ≡ some (told (on_frame (device own) σ f p).0)
+    judged : (p : Result Frame FrameRefusal) {b : Bool} → is_control 0 f ≡ b
+        → first_of (frame_rows (device own) σ (link_found σ (cond b (Some 0) (find σ.links (link_id f)))) f) ≡ some (told (on_frame (device own) σ f p).0)
         → first_of (frame_rows (device own) σ (link_found σ (place_for (device own) σ.links f)) f) ≡ some (told (on_frame (device own) σ f p).0)
     judged p d h =
-        subst (λ (b : Bool). first_of (frame_rows (device own) σ (link_found σ (cond b (At 0) (find σ.links (link_id f)))) f) ≡ some (told (on_frame (device own) σ f p).0)) (sym d) h
+        subst (λ (b : Bool). first_of (frame_rows (device own) σ (link_found σ (cond b (Some 0) (find σ.links (link_id f)))) f) ≡ some (told (on_frame (device own) σ f p).0)) (sym d) h
 
-    of : (p : Parsed) → IsFrame f p → AtDevice own f p
+    of : (p : Result Frame FrameRefusal) → IsFrame f p → AtDevice own f p
         → first_of (frame_rows (device own) σ (link_found σ (place_for (device own) σ.links f)) f) ≡ some (told (on_frame (device own) σ f p).0)
     of p r (an_open k h) =
         judged p (control-open f k h) (open-rows own σ (get_link 0 σ) f k h (good-get Device σ 0 g (omega (arith, right-one own σ right))))
@@ -132,7 +132,7 @@ by-frame (device own) σ f o right g p r = of p r (at-device own f p r)
         ∙ rw (goes (device own) σ f p r d, ← (found_from 0 σ.links (link_id f))) (at-found (device own) σ f o g (find σ.links (link_id f)) refl d p r))
 
 module _ (end : End) (σ : Station) (f : List ℕ) (o : Octets f) where
-  by-reads : is_right end σ ≡ true → good (side_of end) σ.links ≡ true → (p : Parsed) → Reads f p
+  by-reads : is_right end σ ≡ true → good (side_of end) σ.links ≡ true → (p : Result Frame FrameRefusal) → Reads f p
       → first_of (refusal 1 (malformed f) ∷ refusal 2 (unknown_opcode f) ∷ frame_rows end σ (link_found σ (place_for end σ.links f)) f) ≡ some (told (on_frame end σ f p).0)
   by-reads right g p (no-frame m) = rw m
   by-reads right g p (unknown m n) = rw (m, n)
@@ -156,37 +156,37 @@ module _ (end : End) (σ : Station) (f : List ℕ) (right : is_right end σ ≡ 
   unchanged s below = sym (put-get s σ (omega (arith, right-sized end σ right)))
 
   -- of the record that its Link ID finds
-  found-leaves : (s : ℕ) → find σ.links (link_id f) ≡ At s → is_device_open end f ≡ false → (p : Parsed) → IsFrame f p
+  found-leaves : (s : ℕ) → find σ.links (link_id f) ≡ Some s → is_device_open end f ≡ false → (p : Result Frame FrameRefusal) → IsFrame f p
       → (on_frame end σ f p).1 ≡ put_link s (leaves (side_of end) (get_link s σ) f (on_frame end σ f p).0) σ
   found-leaves s at d p r =
       rw (goes end σ f p r d, at) (ap (λ (y : OneLink). put_link s y σ)
       (frame-leaves (side_of end) (get_link s σ) f (get_link s σ).link.state (good-get (side_of end) σ s state_good (found_at σ.links (link_id f) s at).0) p r))
 
-frame-left : (end : End) (σ : Station) (f : List ℕ) → is_right end σ ≡ true → good (side_of end) σ.links ≡ true → (s : ℕ) → place_for end σ.links f ≡ At s
-    → (p : Parsed) → IsFrame f p → (on_frame end σ f p).1 ≡ put_link s (leaves (side_of end) (get_link s σ) f (on_frame end σ f p).0) σ
+frame-left : (end : End) (σ : Station) (f : List ℕ) → is_right end σ ≡ true → good (side_of end) σ.links ≡ true → (s : ℕ) → place_for end σ.links f ≡ Some s
+    → (p : Result Frame FrameRefusal) → IsFrame f p → (on_frame end σ f p).1 ≡ put_link s (leaves (side_of end) (get_link s σ) f (on_frame end σ f p).0) σ
 frame-left provisioner σ f right g s at p r = found-leaves provisioner σ f right g s at refl p r
 frame-left (device own) σ f right g s at p r = of p r (at-device own f p r)
   where
-    of : (p : Parsed) → IsFrame f p → AtDevice own f p
+    of : (p : Result Frame FrameRefusal) → IsFrame f p → AtDevice own f p
         → (on_frame (device own) σ f p).1 ≡ put_link s (leaves Device (get_link s σ) f (on_frame (device own) σ f p).0) σ
     of p r (an_open k h) =
-        let q : At 0 ≡ At s = rw (control-open f k h) at at in
+        let q : Some 0 ≡ Some s = rw (control-open f k h) at at in
         let z : 0 ≡ s = cc in
         rw (← z) (ap (λ (y : OneLink). put_link 0 y σ) (open-leaves own (get_link 0 σ) f))
     of p r (another d) = found-leaves (device own) σ f right g s (rw d at at) d p r
 
-place-below : (end : End) (σ : Station) (f : List ℕ) → is_right end σ ≡ true → (s : ℕ) → place_for end σ.links f ≡ At s → s < length σ.links
+place-below : (end : End) (σ : Station) (f : List ℕ) → is_right end σ ≡ true → (s : ℕ) → place_for end σ.links f ≡ Some s → s < length σ.links
 place-below provisioner σ f right s at = (found_at σ.links (link_id f) s at).0
 place-below (device own) σ f right s at =
     cases (is_control 0 f)
-    (λ e. let q : At 0 ≡ At s = rw e at at in let z : 0 ≡ s = cc in omega (arith, right-one own σ right, z))
+    (λ e. let q : Some 0 ≡ Some s = rw e at at in let z : 0 ≡ s = cc in omega (arith, right-one own σ right, z))
     (λ e. (found_at σ.links (link_id f) s (rw e at at)).0)
 
 pub receiving-leaves : ReceivingLeaves
 unfolding received
 receiving-leaves end σ f right state_good s at = rw (right, state_good) (of (parsed f) (reads f))
   where
-    of : (p : Parsed) → Reads f p → (on_frame end σ f p).1 ≡ put_link s (leaves (side_of end) (get_link s σ) f (on_frame end σ f p).0) σ
+    of : (p : Result Frame FrameRefusal) → Reads f p → (on_frame end σ f p).1 ≡ put_link s (leaves (side_of end) (get_link s σ) f (on_frame end σ f p).0) σ
     of p (no-frame m) = unchanged end σ f right state_good s (place-below end σ f right s at)
     of p (unknown m n) = unchanged end σ f right state_good s (place-below end σ f right s at)
     of p (frame m n r) = frame-left end σ f right state_good s at p r

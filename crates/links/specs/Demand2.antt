@@ -1,6 +1,8 @@
 -- DEMAND 2 over a link: a message cut and received comes back, and a delivery comes only from the exact cut of what is delivered. The proofs
 -- are `proofs/Back.antt`, `proofs/Only.antt` and `proofs/Opened.antt`.
-use Rattle.std.specs.Prelude.{ℕ, Bool, true, false, ◌≢◌, ◌⊎◌, ◌≡◌, length, take}
+use Rattle.std.specs.Prelude.{ℕ, Bool, true, false, ◌≢◌, ◌⊎◌, ◌≡◌, length, take, Some, None, Result, Ok, Err}
+use Rattle.pb_adv.specs.declared.Frame.{Frame}
+use Rattle.pb_adv.specs.declared.FrameRefusal.{FrameRefusal}
 use Prim.Native.String.{String}
 use mathlib.Core.List.{List, [], ◌∷◌, ◌++◌, Memᴰ}
 use Rattle.octets.specs.Numbers.{Octets}
@@ -11,8 +13,7 @@ use Rattle.pb_adv.specs.Tables.{malformed, is_control}
 use Rattle.transactions.specs.Numbers.{is_socket, socket_place}
 use Rattle.transactions.specs.declared.TransactionNumber.{TransactionNumber}
 use Rattle.transactions.specs.declared.Socket.{Socket}
-use Rattle.pb_adv.specs.declared.Parsed.{Parsed}
-use Rattle.pb_adv.specs.declared.Parsed.TheVariants as P
+use Rattle.pb_adv.specs.declared.Frame.TheVariants as P
 use Rattle.pb_adv_writing.specs.Writing.{segment_frame, message_frames}
 use Rattle.links.specs.Links.{End, provisioner, device, side_of, in_use, told}
 use Rattle.links.specs.Good.{good}
@@ -25,20 +26,18 @@ use Rattle.links.specs.Demand3.{Message, Ready, cut_at}
 use Rattle.links.specs.declared.Side.TheVariants.{Provisioner}
 use Rattle.links.specs.declared.LinkState.TheVariants as S
 use Rattle.links.specs.declared.HalfMessage.{HalfMessage}
-use Rattle.links.specs.declared.HalfReceived.TheVariants as H
 use Rattle.links.specs.declared.Link.{Link}
-use Rattle.links.specs.declared.Found.TheVariants.{At}
 
 -- ---- back: "A message cut and received gives that message back, on a link under 3's premises [..] in a state that isn't bad"
 
 -- octets that are neither a segment nor a Close
-abbrev pub is_other : Parsed → Bool
-is_other (P.Segment s) = false
-is_other (P.Acknowledgement id t) = true
-is_other (P.Open id uuid) = true
-is_other (P.Ack id) = true
-is_other (P.Close id reason) = false
-is_other (P.Refused r) = true
+abbrev pub is_other : Result Frame FrameRefusal → Bool
+is_other (Ok (P.Segment s)) = false
+is_other (Ok (P.Acknowledgement id t)) = true
+is_other (Ok (P.Open id uuid)) = true
+is_other (Ok (P.Ack id)) = true
+is_other (Ok (P.Close id reason)) = false
+is_other (Err r) = true
 
 module _ (end : End) (σ : Station) (s : Socket) (m : Message) where
   abbrev pub its_link : Link
@@ -94,7 +93,7 @@ pub record OpenUnder (id : ℕ) (x : OneLink) : Type 0 where
 pub record Receiving (id : ℕ) (t : TransactionNumber) (n : ℕ) (x : OneLink) : Type 0 where
   pub under : OpenUnder id x
   pub half : HalfMessage
-  pub is_half : x.link.half ≡ H.Message half
+  pub is_half : x.link.half ≡ Some half
   pub number : half.number ≡ t
   pub long : half.length ≡ n
 
@@ -109,7 +108,7 @@ module _ (end : End) (σ : Station) where
     pub split : operations ≡ before ++ (start ∷ since)
     pub is_start : start ≡ receiving (segment_frame id m.number m.octets 0)
     pub opened : OpenUnder id (of_socket s (after_all end σ before))
-    pub began : (h : HalfMessage) → (of_socket s (after_all end σ before)).link.half ≡ H.Message h → h.number ≢ m.number
+    pub began : (h : HalfMessage) → (of_socket s (after_all end σ before)).link.half ≡ Some h → h.number ≢ m.number
     pub held : BeforeEach (operate end) (λ τ. Receiving id m.number (length m.octets) (of_socket s τ)) (after_all end σ (before ++ (start ∷ []))) since
     pub cut : (f : List ℕ) → Memᴰ f (message_frames id m.number m.octets) → Memᴰ (receiving f) (start ∷ since)
 
@@ -125,8 +124,8 @@ module _ (end : End) (σ : Station) where
   pub record Delivery (operations : List Operation) (f values : List ℕ) : Type 0 where
     pub socket : Socket
     pub numbered : is_socket socket (length σ.links) ≡ true
-    pub is_for : addressed end (after_all end σ operations).links (parsed f) ≡ At (socket_place socket)
-    pub only : (of_socket socket σ).link.half ≡ H.Nothing → FromCut socket operations f values
+    pub is_for : addressed end (after_all end σ operations).links (parsed f) ≡ Some (socket_place socket)
+    pub only : (of_socket socket σ).link.half ≡ None → FromCut socket operations f values
 
 -- any operations, refused ones too, and any octets
 abbrev pub Only : Type 0

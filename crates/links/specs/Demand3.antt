@@ -1,6 +1,8 @@
 -- DEMAND 3, as one claim about a list of receiving calls, over any number of links at the provisioner's end and the one of a device's. The proof is
 -- `proofs/Demand3.antt`. The claim is stated of any receiver; document 01's rules, `received`, meet it.
-use Rattle.std.specs.Prelude.{ℕ, ◌≤◌, true, cond, ◌≢◌, ◌≡◌, eqb, length, take}
+use Rattle.std.specs.Prelude.{ℕ, ◌≤◌, true, cond, ◌≢◌, ◌≡◌, eqb, length, take, Some, None, Result}
+use Rattle.links.specs.declared.Answer.{Answer}
+use Rattle.links.specs.declared.Refusal.{Refusal}
 use mathlib.Core.List.{List, [], ◌∷◌, ◌++◌, map, Memᴰ}
 use Rattle.octets.specs.Told.{Told, answered}
 use Rattle.transactions.specs.Numbers.{is_socket, socket_place}
@@ -16,10 +18,7 @@ use Rattle.links.specs.Interleaving.{with_key, in_turn, All, state_after, answer
 use Rattle.links.specs.Operations.{ReceivingStep, Receiver}
 use Rattle.links.specs.declared.Side.{Side}
 use Rattle.links.specs.declared.LinkState.TheVariants as S
-use Rattle.links.specs.declared.LastDelivered.TheVariants as L
-use Rattle.links.specs.declared.HalfReceived.TheVariants as H
 use Rattle.links.specs.declared.Link.{Link}
-use Rattle.links.specs.declared.Answer.{Answer}
 
 -- a message under its number
 pub record Message : Type 0 where
@@ -56,16 +55,16 @@ AllAmong fs gs = (f : List ℕ) → Memᴰ f fs → Memᴰ f gs
 -- didn't deliver last"; at a device's end the number is the provisioner's
 pub record ReadyFor (side : Side) (l : Link) (m : Message) : Type 0 where
   pub is_open : l.state ≡ S.Open
-  pub nothing : l.half ≡ H.Nothing
+  pub nothing : l.half ≡ None
   pub half : InHalf (peer side) m.number
-  pub not_last : l.last ≢ L.Number m.number
+  pub not_last : l.last ≢ Some m.number
   pub some-octets : 1 ≤ length m.octets
   pub few-octets : length m.octets ≤ 1469
 
 -- the same, as the rules test it
 pub record Ready (side : Side) (l : Link) (m : Message) : Type 0 where
   pub is_open : l.state ≡ S.Open
-  pub nothing : l.half ≡ H.Nothing
+  pub nothing : l.half ≡ None
   pub awaited : Awaits l.last m.number
   pub number : sends (peer side) m.number ≡ true
   pub some-octets : 1 ≤ length m.octets
@@ -106,7 +105,7 @@ module _ (σ : Station) (message : Socket → Message) where
 
   module _ (step : ReceivingStep) where
     -- each call takes state and area as the call before left them
-    abbrev pub called : Station → Call → Answer × Station
+    abbrev pub called : Station → Call → Result Answer Refusal × Station
     called τ c = step τ c.frame
 
     -- the station after calls, and what the next one answers

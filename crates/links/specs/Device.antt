@@ -1,6 +1,7 @@
 -- A DEVICE'S END, in the words of document 02's request [1] and by none of the tests of `Station.antt`: what an Open does, and the answers that differ
 -- from those of the provisioner's end. The proof is `proofs/Device.antt`.
-use Rattle.std.specs.Prelude.{ℕ, true, false, List, [], ◌∷◌, ◌≢◌, ◌⊎◌, ◌≡◌, length}
+use Rattle.std.specs.Prelude.{ℕ, true, false, List, [], ◌∷◌, ◌≢◌, ◌⊎◌, ◌≡◌, length, Result, Ok, Err}
+use Rattle.links.specs.declared.Answer.{Answer}
 use Rattle.pb_adv.specs.Frame.{link_id}
 use Rattle.pb_adv.specs.Tables.{malformed, is_control}
 use Rattle.links.specs.Links.{device}
@@ -12,7 +13,6 @@ use Rattle.links.specs.declared.LinkState.TheVariants as S
 use Rattle.links.specs.declared.Link.{Link}
 use Rattle.links.specs.declared.Refusal.{Refusal}
 use Rattle.links.specs.declared.Refusal.TheVariants as R
-use Rattle.links.specs.declared.Answer.{Answer}
 use Rattle.links.specs.declared.Answer.TheVariants as A
 
 -- "one session": its record and its area
@@ -21,12 +21,12 @@ device_of l area = record { links = l ∷ []; area = area }
 
 module _ (own : List ℕ) (l : Link) (area : List ℕ) where
   -- a receiving call
-  abbrev pub heard : List ℕ → Answer × Station
+  abbrev pub heard : List ℕ → Result Answer Refusal × Station
   heard f = received (device own) (device_of l area) f
 
   -- a refusal, and nothing changed
-  abbrev pub refuses : Refusal → Answer × Station
-  refuses r = (A.Refused r, device_of l area)
+  abbrev pub refuses : Refusal → Result Answer Refusal × Station
+  refuses r = (Err r, device_of l area)
 
   -- a UUID of 16 octets, "1,469 octets of area", and a record that isn't bad
   pub record Session : Type 0 where
@@ -36,9 +36,9 @@ module _ (own : List ℕ) (l : Link) (area : List ℕ) where
 
   pub record Hears : Type 0 where
     -- "opened by an Open frame whose UUID is its own ('opened')": a blank record with the Link ID, which sends from 0x80; the area stays
-    pub opened : l.state ≡ S.Free → (id : ℕ) (f : List ℕ) → IsOpen id own f → heard f ≡ (A.Opened, device_of (blank_record Device S.Open id) area)
+    pub opened : l.state ≡ S.Free → (id : ℕ) (f : List ℕ) → IsOpen id own f → heard f ≡ (Ok A.Opened, device_of (blank_record Device S.Open id) area)
     -- "another such Open for the same Link ID answers 'already' and changes nothing"
-    pub already : l.state ≡ S.Open → (f : List ℕ) → IsOpen l.id own f → heard f ≡ (A.Already, device_of l area)
+    pub already : l.state ≡ S.Open → (f : List ℕ) → IsOpen l.id own f → heard f ≡ (Ok A.Already, device_of l area)
     -- "16 (busy with another link)"
     pub busy : l.state ≡ S.Open → (id : ℕ) → id ≢ l.id → (f : List ℕ) → IsOpen id own f → heard f ≡ refuses R.Busy
     -- "15 (other UUID), then 16": with whatever Link ID, and whether it is open or not

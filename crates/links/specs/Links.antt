@@ -1,21 +1,16 @@
 -- The link record: its two ends, its numbers, blank, and the few ways in which it is written anew.
-use Rattle.std.specs.Prelude.{ℕ, suc, ◌*◌, ◌/◌, Bool, true, false, ◌&&◌, cond, List, [], ◌∷◌, ◌≡◌, eqb}
+use Rattle.std.specs.Prelude.{ℕ, suc, ◌*◌, ◌/◌, Bool, true, false, ◌&&◌, cond, List, [], ◌∷◌, ◌≡◌, eqb, Option, Some, None, Result, Ok, Err}
+use Rattle.links.specs.declared.Answer.{Answer}
+use Rattle.links.specs.declared.HalfMessage.{HalfMessage}
 use Rattle.octets.specs.Told.{Told, refused, answered}
 use Rattle.transactions.specs.declared.TransactionNumber.{TransactionNumber}
 use Rattle.links.specs.declared.Side.{Side}
 use Rattle.links.specs.declared.Side.TheVariants.{Provisioner, Device}
 use Rattle.links.specs.declared.LinkState.{LinkState}
 use Rattle.links.specs.declared.LinkState.TheVariants as S
-use Rattle.links.specs.declared.LastDelivered.{LastDelivered}
-use Rattle.links.specs.declared.LastDelivered.TheVariants as L
-use Rattle.links.specs.declared.HalfReceived.{HalfReceived}
-use Rattle.links.specs.declared.HalfReceived.TheVariants as H
 use Rattle.links.specs.declared.Link.{Link}
-use Rattle.links.specs.declared.Found.{Found}
-use Rattle.links.specs.declared.Found.TheVariants.{At, Nowhere}
 use Rattle.links.specs.declared.Refusal.{Refusal}
 use Rattle.links.specs.declared.Refusal.TheVariants as R
-use Rattle.links.specs.declared.Answer.{Answer}
 use Rattle.links.specs.declared.Answer.TheVariants as A
 
 -- ---- the two ends and their numbers
@@ -48,12 +43,12 @@ abbrev pub first_number : Side → TransactionNumber
 first_number side = record { 0 = 128 * half_sent side }
 
 -- whether a number is the last delivered
-abbrev pub is_last : LastDelivered → TransactionNumber → Bool
-is_last L.Nothing t = false
-is_last (L.Number u) t = eqb u.0 t.0
+abbrev pub is_last : Option TransactionNumber → TransactionNumber → Bool
+is_last None t = false
+is_last (Some u) t = eqb u.0 t.0
 
 -- what a link awaits of the number of a new message: not the last delivered
-pub record Awaits (last : LastDelivered) (t : TransactionNumber) : Type 0 where
+pub record Awaits (last : Option TransactionNumber) (t : TransactionNumber) : Type 0 where
   pub not_last : is_last last t ≡ false
 
 -- ---- records
@@ -61,7 +56,7 @@ pub record Awaits (last : LastDelivered) (t : TransactionNumber) : Type 0 where
 -- a record in a state and with a Link ID, and else blank: "sending from 0x00, nothing outstanding, last delivered or half-received"; from 0x80 at a
 -- device's end
 abbrev pub blank_with : Side → LinkState → ℕ → Link
-blank_with side state id = record { state = state; id = id; next = first_number side; outstanding = false; last = L.Nothing; half = H.Nothing }
+blank_with side state id = record { state = state; id = id; next = first_number side; outstanding = false; last = None; half = None }
 
 -- blank: "Link ID 0 if free"
 abbrev pub blank : Side → Link
@@ -72,7 +67,7 @@ abbrev pub with_state : Link → LinkState → Link
 with_state l state = record { state = state; id = l.id; next = l.next; outstanding = l.outstanding; last = l.last; half = l.half }
 
 -- a record with another last delivered number and half-received message
-abbrev pub with_received : Link → LastDelivered → HalfReceived → Link
+abbrev pub with_received : Link → Option TransactionNumber → Option HalfMessage → Link
 with_received l last half = record { state = l.state; id = l.id; next = l.next; outstanding = l.outstanding; last = last; half = half }
 
 -- a record with another sending number and outstanding mark
@@ -90,11 +85,11 @@ abbrev pub has_id : Link → ℕ → Bool
 has_id l id = in_use l.state && eqb l.id id
 
 -- the place of the record in use that has a Link ID, counted from k
-unfoldable pub find_from : ℕ → List Link → ℕ → Found
-find_from k [] id = Nowhere
-find_from k (l ∷ ls) id = cond (has_id l id) (At k) (find_from (suc k) ls id)
+unfoldable pub find_from : ℕ → List Link → ℕ → Option ℕ
+find_from k [] id = None
+find_from k (l ∷ ls) id = cond (has_id l id) (Some k) (find_from (suc k) ls id)
 
-abbrev pub find : List Link → ℕ → Found
+abbrev pub find : List Link → ℕ → Option ℕ
 find ls id = find_from 0 ls id
 
 -- ---- the numbers and words of document 01, and of request [1] for a device's end
@@ -117,15 +112,15 @@ refusal_number R.BadState = 14
 refusal_number R.OtherUuid = 15
 refusal_number R.Busy = 16
 
-abbrev pub told : Answer → Told
-told (A.Refused r) = refused (refusal_number r)
-told A.AcknowledgeAgain = answered "acknowledge again" []
-told A.Kept = answered "kept" []
-told A.Repeat = answered "repeat" []
-told (A.Delivered n t) = answered "delivered" (n ∷ t.0 ∷ [])
-told A.Opened = answered "opened" []
-told A.Already = answered "already" []
-told (A.Closed reason) = answered "closed" (reason ∷ [])
-told A.Acknowledged = answered "acknowledged" []
-told (A.Sending t n) = answered "sending" (t.0 ∷ n ∷ [])
-told A.Done = answered "done" []
+abbrev pub told : Result Answer Refusal → Told
+told (Err r) = refused (refusal_number r)
+told (Ok A.AcknowledgeAgain) = answered "acknowledge again" []
+told (Ok A.Kept) = answered "kept" []
+told (Ok A.Repeat) = answered "repeat" []
+told (Ok (A.Delivered n t)) = answered "delivered" (n ∷ t.0 ∷ [])
+told (Ok A.Opened) = answered "opened" []
+told (Ok A.Already) = answered "already" []
+told (Ok (A.Closed reason)) = answered "closed" (reason ∷ [])
+told (Ok A.Acknowledged) = answered "acknowledged" []
+told (Ok (A.Sending t n)) = answered "sending" (t.0 ∷ n ∷ [])
+told (Ok A.Done) = answered "done" []

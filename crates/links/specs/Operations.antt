@@ -1,5 +1,7 @@
 -- The calls of an end in any mixture: any octets received, and the local calls of any socket with any arguments.
-use Rattle.std.specs.Prelude.{ℕ, List, ◌≡◌}
+use Rattle.std.specs.Prelude.{ℕ, List, ◌≡◌, Result}
+use Rattle.links.specs.declared.Answer.{Answer}
+use Rattle.links.specs.declared.Refusal.{Refusal}
 use Rattle.octets.specs.Numbers.{Octets}
 use Rattle.transactions.specs.declared.Socket.{Socket}
 use Rattle.links.specs.Links.{End, side_of}
@@ -8,7 +10,6 @@ use Rattle.links.specs.Interleaving.{state_after}
 use Rattle.links.specs.declared.Side.{Side}
 use Rattle.links.specs.declared.Side.TheVariants.{Provisioner}
 use Rattle.links.specs.declared.Link.{Link}
-use Rattle.links.specs.declared.Answer.{Answer}
 
 pub data Operation : Type 0 where
   receiving : List ℕ → Operation
@@ -18,24 +19,24 @@ pub data Operation : Type 0 where
 
 -- any step in the place of a receiving call, and one for each end; document 01's is `received`, and the idle programs are others
 abbrev pub ReceivingStep : Type 0
-ReceivingStep = Station → List ℕ → Answer × Station
+ReceivingStep = Station → List ℕ → Result Answer Refusal × Station
 
 abbrev pub Receiver : Type 0
 Receiver = End → ReceivingStep
 
 -- a local call leaves the area
-abbrev pub at_records : Station → Answer × List Link → Answer × Station
+abbrev pub at_records : Station → Result Answer Refusal × List Link → Result Answer Refusal × Station
 at_records σ r = (r.0, record { links = r.1; area = σ.area })
 
 -- AN OPERATION, refused or not, with such a step
-abbrev pub operate_by : ReceivingStep → Side → Station → Operation → Answer × Station
+abbrev pub operate_by : ReceivingStep → Side → Station → Operation → Result Answer Refusal × Station
 operate_by step side σ (receiving f) = step σ f
 operate_by step side σ (opening s id) = at_records σ (local_open side σ.links s id)
 operate_by step side σ (sending s n) = at_records σ (local_send side σ.links s n)
 operate_by step side σ (closing s) = at_records σ (local_close side σ.links s)
 
 -- by document 01's rules
-abbrev pub operate : End → Station → Operation → Answer × Station
+abbrev pub operate : End → Station → Operation → Result Answer Refusal × Station
 operate end σ c = operate_by (received end) (side_of end) σ c
 
 -- the station after operations

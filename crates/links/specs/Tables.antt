@@ -1,7 +1,10 @@
 -- DOCUMENT 01'S TABLE of a receiving call: each answer with what it is given for, in the order of the checks; and the tables of the local calls. Rows
 -- are written from the frame's octets and the records, so that a changed test of the rules is refused; what they share with the rules, as `good`, `find`
 -- and the marks, has statements of its own. The proofs are `proofs/Tables.antt`.
-use Rattle.std.specs.Prelude.{ℕ, ◌*◌, ◌-◌, Bool, true, false, ◌&&◌, ◌||◌, cond, not, List, [], ◌∷◌, ◌≡◌, leb, ltb, eqb, length, get_or, set, take}
+use Rattle.std.specs.Prelude.{ℕ, ◌*◌, ◌-◌, Bool, true, false, ◌&&◌, ◌||◌, cond, not, List, [], ◌∷◌, ◌≡◌, leb, ltb, eqb, length, get_or, set, take, Option, Some, None, Result, Ok, Err}
+use Rattle.links.specs.declared.Answer.{Answer}
+use Rattle.links.specs.declared.Refusal.{Refusal}
+use Rattle.transactions.specs.declared.TransactionNumber.{TransactionNumber}
 use Rattle.octets.specs.Numbers.{Octets}
 use Rattle.octets.specs.Parts.{part, write, same}
 use Rattle.octets.specs.Cut.{piece}
@@ -24,16 +27,9 @@ use Rattle.links.specs.declared.Side.{Side}
 use Rattle.links.specs.declared.Side.TheVariants.{Provisioner, Device}
 use Rattle.links.specs.declared.LinkState.{LinkState}
 use Rattle.links.specs.declared.LinkState.TheVariants as S
-use Rattle.links.specs.declared.LastDelivered.{LastDelivered}
-use Rattle.links.specs.declared.LastDelivered.TheVariants as L
 use Rattle.links.specs.declared.HalfMessage.{HalfMessage}
-use Rattle.links.specs.declared.HalfReceived.{HalfReceived}
-use Rattle.links.specs.declared.HalfReceived.TheVariants as H
 use Rattle.links.specs.declared.Link.{Link}
-use Rattle.links.specs.declared.Answer.{Answer}
 use Rattle.links.specs.declared.Answer.TheVariants as A
-use Rattle.links.specs.declared.Found.{Found}
-use Rattle.links.specs.declared.Found.TheVariants.{At, Nowhere}
 
 -- ---- 11, 14, 3, and what a frame is judged by
 
@@ -70,13 +66,13 @@ abbrev pub unknown_link : End → Station → List ℕ → Bool
 unknown_link end σ f = not (is_device_open end f) && not (is_id_in_use σ.links (link_id f))
 
 -- the record that a frame is judged by: the one of its Link ID; for an Open that comes to a device, its one record
-abbrev pub place_for : End → List Link → List ℕ → Found
-place_for end ls f = cond (is_device_open end f) (At 0) (find ls (link_id f))
+abbrev pub place_for : End → List Link → List ℕ → Option ℕ
+place_for end ls f = cond (is_device_open end f) (Some 0) (find ls (link_id f))
 
 -- the link of it
-abbrev pub link_found : Station → Found → OneLink
-link_found σ (At s) = get_link s σ
-link_found σ Nowhere = get_link (length σ.links) σ
+abbrev pub link_found : Station → Option ℕ → OneLink
+link_found σ (Some s) = get_link s σ
+link_found σ None = get_link (length σ.links) σ
 
 -- ---- "an Open .. gets 15 (other UUID), then 16 (busy with another link)"
 
@@ -137,25 +133,25 @@ check_in f = get_or f 8 0
 -- ---- "acknowledge again", 6, 7, 8, and what a good segment answers
 
 -- "a segment with the link's last delivered number"
-abbrev pub has_last_number : LastDelivered → List ℕ → Bool
-has_last_number L.Nothing f = false
-has_last_number (L.Number t) f = eqb t.0 (number_of f).0
+abbrev pub has_last_number : Option TransactionNumber → List ℕ → Bool
+has_last_number None f = false
+has_last_number (Some t) f = eqb t.0 (number_of f).0
 
-abbrev pub is_last_delivered : LastDelivered → List ℕ → Bool
+abbrev pub is_last_delivered : Option TransactionNumber → List ℕ → Bool
 is_last_delivered last f = is_segment f && has_last_number last f
 
 -- there is a "half-received message of its number"
-abbrev pub has_number : HalfReceived → List ℕ → Bool
-has_number H.Nothing f = false
-has_number (H.Message h) f = eqb h.number.0 (number_of f).0
+abbrev pub has_number : Option HalfMessage → List ℕ → Bool
+has_number None f = false
+has_number (Some h) f = eqb h.number.0 (number_of f).0
 
 -- the message that a segment is of: the half-received one of its number, or the one that a Start begins
-abbrev pub message_of : HalfReceived → List ℕ → HalfMessage
-message_of H.Nothing f = begun (number_of f) (length_in f) (check_in f)
-message_of (H.Message h) f = cond (has_number (H.Message h) f) h (begun (number_of f) (length_in f) (check_in f))
+abbrev pub message_of : Option HalfMessage → List ℕ → HalfMessage
+message_of None f = begun (number_of f) (length_in f) (check_in f)
+message_of (Some h) f = cond (has_number (Some h) f) h (begun (number_of f) (length_in f) (check_in f))
 
 -- "Continuation with no half-received message of its number"
-abbrev pub not_begun : HalfReceived → List ℕ → Bool
+abbrev pub not_begun : Option HalfMessage → List ℕ → Bool
 not_begun half f = is_kind 2 f && not (has_number half f)
 
 -- "other L, check" in a Start
@@ -179,7 +175,7 @@ abbrev pub other_check : OneLink → HalfMessage → ℕ → List ℕ → Bool
 other_check x h k d = not (eqb (check_octet (take h.length (write x.part (segment_place k) d))) h.check)
 
 -- "same number, but other L, check or octets in a repeat; segment above SegN; wrong segment length"
-abbrev pub mismatches : OneLink → HalfReceived → HalfMessage → List ℕ → Bool
+abbrev pub mismatches : OneLink → Option HalfMessage → HalfMessage → List ℕ → Bool
 mismatches x half h f =
     is_segment f && (has_number half f && (other_start h f || (is_unfit h (index_in f) (octets_in f) || other_octets x h (index_in f) (octets_in f))))
 
@@ -254,39 +250,39 @@ module _ (side : Side) (x : OneLink) (id : ℕ) (h : HalfMessage) (k : ℕ) (d :
 
   -- a segment leaves of the record all but the last delivered number and the half-received message; its octets stand at "place 20 + 23(k - 1)", those
   -- of segment 0 at "the start of the socket's part"
-  abbrev pub with_segment : LastDelivered → HalfReceived → OneLink
+  abbrev pub with_segment : Option TransactionNumber → Option HalfMessage → OneLink
   with_segment last half = record {
     link = record { state = before.state; id = before.id; next = before.next; outstanding = before.outstanding; last = last; half = half };
     part = write x.part (segment_place k) d;
   }
 
-  abbrev pub leaves_by : Answer → OneLink
+  abbrev pub leaves_by : Result Answer Refusal → OneLink
   -- "Refusal 8 clears it too, the octets, the last segment's among them, stay written, and the last delivered number stays. Every other refusal
   -- changes nothing."
-  leaves_by (A.Refused r) = cond (eqb (refusal_number r) 8) (with_segment before.last H.Nothing) x
-  leaves_by A.AcknowledgeAgain = x
-  leaves_by A.Kept = with_segment before.last (H.Message (marked h k))
-  leaves_by A.Repeat = x
+  leaves_by (Err r) = cond (eqb (refusal_number r) 8) (with_segment before.last None) x
+  leaves_by (Ok A.AcknowledgeAgain) = x
+  leaves_by (Ok A.Kept) = with_segment before.last (Some (marked h k))
+  leaves_by (Ok A.Repeat) = x
   -- "the half-received record is cleared"; the number is the last delivered
-  leaves_by (A.Delivered n t) = with_segment (L.Number t) H.Nothing
-  leaves_by A.Opened = part_stays (opened_record side before id)
-  leaves_by A.Already = x
-  leaves_by (A.Closed reason) = part_stays (blank_record side S.Free 0)
+  leaves_by (Ok (A.Delivered n t)) = with_segment (Some t) None
+  leaves_by (Ok A.Opened) = part_stays (opened_record side before id)
+  leaves_by (Ok A.Already) = x
+  leaves_by (Ok (A.Closed reason)) = part_stays (blank_record side S.Free 0)
   -- it "clears the outstanding mark, steps the number"
-  leaves_by A.Acknowledged =
+  leaves_by (Ok A.Acknowledged) =
       part_stays (record { state = before.state; id = before.id; next = number_after before.next; outstanding = false; last = before.last; half = before.half })
   -- answers of the local calls
-  leaves_by (A.Sending t n) = x
-  leaves_by A.Done = x
+  leaves_by (Ok (A.Sending t n)) = x
+  leaves_by (Ok A.Done) = x
 
-abbrev pub leaves : Side → OneLink → List ℕ → Answer → OneLink
+abbrev pub leaves : Side → OneLink → List ℕ → Result Answer Refusal → OneLink
 leaves side x f a = leaves_by side x (link_id f) (message_of x.link.half f) (index_in f) (octets_in f) a
 
 -- past 11 and 14
 abbrev pub ReceivingLeaves : Type 0
 ReceivingLeaves =
     (end : End) (σ : Station) (f : List ℕ) → is_right end σ ≡ true → good (side_of end) σ.links ≡ true
-    → (s : ℕ) → place_for end σ.links f ≡ At s → (received end σ f).1 ≡ put_link s (leaves (side_of end) (get_link s σ) f (received end σ f).0) σ
+    → (s : ℕ) → place_for end σ.links f ≡ Some s → (received end σ f).1 ≡ put_link s (leaves (side_of end) (get_link s σ) f (received end σ f).0) σ
 
 -- ---- the local calls
 

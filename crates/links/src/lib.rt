@@ -2,27 +2,24 @@
 // them is in the crates link_steps, local_calls, station and device.
 #![tactic(auto)]
 
+ghost use Rattle.std.specs.Prelude.{◌≡◌};
+ghost use Rattle.links.specs.Station.{frame_refusal};
+
+use pb_adv::FrameRefusal;
 use transactions::TransactionNumber;
 
 // The end of the links that a record is of.
-#[derive(Clone, Copy)]
+#[derive(Clone, Copy, PartialEq, Eq)]
 pub enum Side {
     Provisioner,
     Device,
 }
 
-#[derive(Clone, Copy)]
+#[derive(Clone, Copy, PartialEq, Eq)]
 pub enum LinkState {
     Free,
     Opening,
     Open,
-}
-
-// The last delivered number, or none.
-#[derive(Clone, Copy)]
-pub enum LastDelivered {
-    Nothing,
-    Number(TransactionNumber),
 }
 
 // What is known of a half-received message: bit k of the marks says that segment k is in.
@@ -34,33 +31,20 @@ pub struct HalfMessage {
     pub marks: u64,
 }
 
-// The half-received message, if any.
-#[derive(Clone, Copy)]
-pub enum HalfReceived {
-    Nothing,
-    Message(HalfMessage),
-}
-
-// A link record. id is the Link ID, next the next sending number, outstanding whether it awaits its acknowledgement.
+// A link record. id is the Link ID, next the next sending number, outstanding whether it awaits its acknowledgement, last the last delivered number,
+// half the half-received message.
 #[derive(Clone, Copy)]
 pub struct Link {
     pub state: LinkState,
     pub id: u32,
     pub next: TransactionNumber,
     pub outstanding: bool,
-    pub last: LastDelivered,
-    pub half: HalfReceived,
-}
-
-// Where a record was found, counted from 0.
-#[derive(Clone, Copy)]
-pub enum Found {
-    At(usize),
-    Nowhere,
+    pub last: Option<TransactionNumber>,
+    pub half: Option<HalfMessage>,
 }
 
 // Why a call is refused, in the order of document 01's numbers, from 1; the last two are a device's.
-#[derive(Clone, Copy)]
+#[derive(Clone, Copy, Debug, PartialEq, Eq)]
 pub enum Refusal {
     Malformed,
     UnknownOpcode,
@@ -80,10 +64,21 @@ pub enum Refusal {
     Busy,
 }
 
-// The answers of the calls of either end.
+// Octets that are no frame are refused as the reading of frames refuses them.
+impl From<FrameRefusal> for Refusal {
+    ghost from_gives = { λ refusal made. made ≡ frame_refusal refusal };
+
+    fn from(refusal: FrameRefusal) -> Refusal {
+        match refusal {
+            FrameRefusal::Malformed => Refusal::Malformed,
+            FrameRefusal::UnknownOpcode => Refusal::UnknownOpcode,
+        }
+    }
+}
+
+// The answers of the calls of either end, where they are not refused.
 #[derive(Clone, Copy)]
 pub enum Answer {
-    Refused(Refusal),
     AcknowledgeAgain,
     Kept,
     Repeat,

@@ -1,5 +1,8 @@
 -- 11 and 14, which come first on every local call, over the eight records; `right count` is the test of its arguments for so many sockets.
 use Prim.Native.Nat.{ℕ}
+use Rattle.links.specs.declared.Answer.{Answer}
+use Rattle.links.specs.declared.Refusal.{Refusal}
+use Rattle.std.specs.Prelude.{Result}
 use mathlib.Core.Bool.{Bool, true, false}
 use mathlib.Core.List.{List}
 use mathlib.Core.Path.{◌≡◌}
@@ -9,11 +12,10 @@ use Rattle.links.specs.Station.{judged}
 use Rattle.links.specs.declared.Side.TheVariants.{Provisioner}
 use Rattle.links.specs.declared.Link.{Link}
 use Rattle.links.specs.declared.Refusal.TheVariants as R
-use Rattle.links.specs.declared.Answer.{Answer}
 use Rattle.link_records.specs.Records.{call_refused}
 use Rattle.local_calls.specs.Calls.{called_of}
 
-module _ (links : List Link) (right : ℕ → Bool) (step : Answer × List Link) (n : length links ≡ 8) where
+module _ (links : List Link) (right : ℕ → Bool) (step : Result Answer Refusal × List Link) (n : length links ≡ 8) where
   pub judged-wrong : right 8 ≡ false → called_of (judged Provisioner links (right (length links)) step) ≡ call_refused links R.WrongArgument
   judged-wrong e = rw (n, e)
 

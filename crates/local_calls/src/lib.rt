@@ -7,7 +7,7 @@ ghost use Rattle.links.specs.declared.Side.TheVariants.{Provisioner};
 ghost use Rattle.local_calls.specs.Calls.{called_of};
 
 use link_records::{Received, blank_with, link_at, refuse_call, store};
-use links::{Answer, Found, Link, LinkState, Refusal, Side};
+use links::{Answer, Link, LinkState, Refusal, Side};
 use transactions::Socket;
 
 // Open, once 11 and 14 are tried.
@@ -15,32 +15,28 @@ fn open_at(links: [Link; 8], socket: Socket, id: u32) -> Received
     ensures { result ≡ called_of (open_at Provisioner links socket id) }
 {
     let place = socket.place();
-    let link = link_at(links, place);
-    let state = link.state;
-    if link_fields::is_in_use(state) {
+    if link_fields::is_in_use(link_at(links, place).state) {
         return refuse_call(links, Refusal::SocketInUse);
     }
-    let taken = link_search::find_link(links, id);
-    match taken {
-        Found::At(_) => refuse_call(links, Refusal::LinkIdInUse),
-        Found::Nowhere => {
-            let opened = blank_with(Side::Provisioner, LinkState::Opening, id);
-            store(links, place, opened, Answer::Done)
-        }
+    if link_search::find_link(links, id).is_some() {
+        return refuse_call(links, Refusal::LinkIdInUse);
     }
+    let opened = blank_with(Side::Provisioner, LinkState::Opening, id);
+    store(links, place, opened, Ok(Answer::Done))
 }
 
 // Opens a link with a Link ID at a socket.
+#[tactic(auto, unfolding(links::specs::Station::local_open))]
 pub fn open(links: [Link; 8], socket: Socket, id: u32) -> Received
     ensures { result ≡ called_of (local_open Provisioner links socket id) }
 {
-    if socket.is_one_of(8) {
-        if link_state::is_good(Side::Provisioner, links) {
-            return open_at(links, socket, id);
-        }
+    if !socket.is_one_of(8) {
+        return refuse_call(links, Refusal::WrongArgument);
+    }
+    if !link_state::is_good(Side::Provisioner, links) {
         return refuse_call(links, Refusal::BadState);
     }
-    refuse_call(links, Refusal::WrongArgument)
+    open_at(links, socket, id)
 }
 
 // Send, once 11 and 14 are tried.
@@ -49,25 +45,24 @@ fn send_at(links: [Link; 8], socket: Socket, length: u16) -> Received
 {
     let place = socket.place();
     let stepped = link_steps::send(link_at(links, place), length);
-    let next = stepped.link;
-    let answer = stepped.answer;
-    store(links, place, next, answer)
+    store(links, place, stepped.link, stepped.answer)
 }
 
 // Begins to send a message of so many octets on a socket's link: its number and SegN.
+#[tactic(auto, unfolding(links::specs::Station::local_send))]
 pub fn send(links: [Link; 8], socket: Socket, length: usize) -> Received
     ensures { result ≡ called_of (local_send Provisioner links socket length) }
 {
-    if socket.is_one_of(8) {
-        if octets::is_length(length) {
-            if link_state::is_good(Side::Provisioner, links) {
-                return send_at(links, socket, length as u16);
-            }
-            return refuse_call(links, Refusal::BadState);
-        }
+    if !socket.is_one_of(8) {
         return refuse_call(links, Refusal::WrongArgument);
     }
-    refuse_call(links, Refusal::WrongArgument)
+    if !octets::is_length(length) {
+        return refuse_call(links, Refusal::WrongArgument);
+    }
+    if !link_state::is_good(Side::Provisioner, links) {
+        return refuse_call(links, Refusal::BadState);
+    }
+    send_at(links, socket, length as u16)
 }
 
 // Close, once 11 and 14 are tried.
@@ -76,20 +71,19 @@ fn close_at(links: [Link; 8], socket: Socket) -> Received
 {
     let place = socket.place();
     let stepped = link_steps::close(Side::Provisioner, link_at(links, place));
-    let next = stepped.link;
-    let answer = stepped.answer;
-    store(links, place, next, answer)
+    store(links, place, stepped.link, stepped.answer)
 }
 
 // Closes a socket's link.
+#[tactic(auto, unfolding(links::specs::Station::local_close))]
 pub fn close(links: [Link; 8], socket: Socket) -> Received
     ensures { result ≡ called_of (local_close Provisioner links socket) }
 {
-    if socket.is_one_of(8) {
-        if link_state::is_good(Side::Provisioner, links) {
-            return close_at(links, socket);
-        }
+    if !socket.is_one_of(8) {
+        return refuse_call(links, Refusal::WrongArgument);
+    }
+    if !link_state::is_good(Side::Provisioner, links) {
         return refuse_call(links, Refusal::BadState);
     }
-    refuse_call(links, Refusal::WrongArgument)
+    close_at(links, socket)
 }

@@ -1,4 +1,5 @@
 -- Laws of opening lines: what their digits tell.
+use Rattle.std.specs.Prelude.{Some, None}
 use Prim.Native.Nat.{ℕ, ◌%◌, ◌≤◌}
 use native.Mathlib.Omega.{arith}
 use mathlib.Core.Bool.{true}
@@ -12,11 +13,10 @@ use Rattle.octets.specs.Numbers.{big32}
 use Rattle.octets.proofs.Parts.{write-start}
 use Rattle.octets.proofs.Tests.{cases, both_hold}
 use Rattle.hexadecimal.specs.Hex.{all_digits, octets_of, decoded_of, decoded_output}
-use Rattle.hexadecimal.specs.declared.Decoded.TheVariants.{Octets}
+use Rattle.std.specs.Prelude.{Ok}
 use Rattle.hexadecimal.proofs.Laws.{length-octets}
 use Rattle.hexadecimal.proofs.Readings.{read-octets, read-output}
 use Rattle.log_lines.specs.Lines.{begins_opening, socket_in, opening_of}
-use Rattle.log_lines.specs.declared.Opening.TheVariants as G
 
 module _ (line : List ℕ) (begins : begins_opening line ≡ true) where
   pub begun-so : (length line ≡ 10) × (49 ≤ get_or line 0 0) × (get_or line 0 0 ≤ 56)
@@ -37,8 +37,8 @@ module _ (line : List ℕ) (begins : begins_opening line ≡ true) where
   id_room = replicate 4 0
 
   -- eight digits, or the line is no opening
-  pub opening-digits : {n : ℕ} → decoded_of (drop 2 line) id_room ≡ Octets n
-      → opening_of line ≡ G.Opens (socket_in line) (big32 (decoded_output (drop 2 line) id_room) 0)
+  pub opening-digits : {n : ℕ} → decoded_of (drop 2 line) id_room ≡ Ok n
+      → opening_of line ≡ Some (record { socket = socket_in line; id = big32 (decoded_output (drop 2 line) id_room) 0 })
   unfolding opening_of
   opening-digits e =
       let r = read-octets (drop 2 line) id_room e in
@@ -48,7 +48,7 @@ module _ (line : List ℕ) (begins : begins_opening line ≡ true) where
       read-output (drop 2 line) id_room e ∙ write-start id_room (octets_of (drop 2 line)) ∙ rw four (append-nil (octets_of (drop 2 line))) in
       rw (begins, d.1, out)
 
-  pub opening-wrong : ((n : ℕ) → decoded_of (drop 2 line) id_room ≡ Octets n → ⊥) → opening_of line ≡ G.Nothing
+  pub opening-wrong : ((n : ℕ) → decoded_of (drop 2 line) id_room ≡ Ok n → ⊥) → opening_of line ≡ None
   unfolding opening_of decoded_of
   opening-wrong h =
       rw begins (cases (all_digits (drop 2 line))

@@ -1,10 +1,9 @@
 -- The lines of a tray's log: what kind a line is, and what is written. Quotations are of `docs/IMPORT.md`.
-use Rattle.std.specs.Prelude.{ℕ, ◌+◌, ◌-◌, Bool, ◌&&◌, ◌||◌, cond, List, [], ◌∷◌, ◌++◌, leb, eqb, length, get_or, drop}
+use Rattle.std.specs.Prelude.{ℕ, ◌+◌, ◌-◌, Bool, ◌&&◌, ◌||◌, cond, Option, Some, None, List, [], ◌∷◌, ◌++◌, leb, eqb, length, get_or, drop}
 use Rattle.octets.specs.Numbers.{big32, octets32}
 use Rattle.hexadecimal.specs.Hex.{all_digits, is_hexadecimal, octets_of, text_of}
 use Rattle.transactions.specs.declared.Socket.{Socket}
 use Rattle.log_lines.specs.declared.Opening.{Opening}
-use Rattle.log_lines.specs.declared.Opening.TheVariants as G
 
 -- ---- what kind of line it is
 
@@ -34,8 +33,8 @@ socket_in line = record { 0 = get_or line 0 0 - 48 }
 abbrev pub id_in : List ℕ → ℕ
 id_in line = big32 (octets_of (drop 2 line)) 0
 
-unfoldable pub opening_of : List ℕ → Opening
-opening_of line = cond (is_opening line) (G.Opens (socket_in line) (id_in line)) G.Nothing
+unfoldable pub opening_of : List ℕ → Option Opening
+opening_of line = cond (is_opening line) (Some (record { socket = socket_in line; id = id_in line })) None
 
 -- "`#` and anything; or nothing at all"
 abbrev pub is_passed : List ℕ → Bool

@@ -8,11 +8,11 @@ pub use openings::read_opening;
 use transactions::Socket;
 pub use writing::{write_heard, write_opening, write_sent};
 
-// What a line says as an opening.
+// What an opening line says.
 #[derive(Clone, Copy)]
-pub enum Opening {
-    Opens { socket: Socket, id: u32 },
-    Nothing,
+pub struct Opening {
+    pub socket: Socket,
+    pub id: u32,
 }
 
 // No line that is written is longer: the mark of a sent frame, the 58 digits of the longest frame, and a newline.

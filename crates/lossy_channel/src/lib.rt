@@ -35,8 +35,8 @@ pub fn new(seed: u32, lost: u8, repeated: u8) -> Channel
 {
     Channel {
         number: seed % 2147483646 + 1,
-        lost: lost,
-        repeated: repeated,
+        lost,
+        repeated,
     }
 }
 
@@ -44,19 +44,21 @@ pub fn new(seed: u32, lost: u8, repeated: u8) -> Channel
 pub fn draw(channel: Channel) -> Channel
     ensures { result ≡ drawn channel }
 {
-    let mut after = channel;
-    after.number = ((channel.number as u64) * 48271 % 2147483647) as u32;
-    after
+    let number = u64::from(channel.number) * 48271 % 2147483647;
+    Channel {
+        number: number as u32,
+        ..channel
+    }
 }
 
 // The fate of a frame by the two numbers drawn for it.
 fn fate_of(channel: Channel, first: u32, second: u32) -> Fate
     ensures { result ≡ fate_of channel first second }
 {
-    if first % 100 < channel.lost as u32 {
+    if first % 100 < u32::from(channel.lost) {
         return Fate::Lost;
     }
-    if second % 100 < channel.repeated as u32 {
+    if second % 100 < u32::from(channel.repeated) {
         return Fate::Twice;
     }
     Fate::Once
@@ -68,9 +70,8 @@ pub fn carry(channel: Channel) -> Carried
 {
     let first = draw(channel);
     let second = draw(first);
-    let fate = fate_of(channel, first.number, second.number);
     Carried {
         channel: second,
-        fate: fate,
+        fate: fate_of(channel, first.number, second.number),
     }
 }

@@ -6,16 +6,19 @@ use mathlib.Core.Path.{◌≡◌, refl, sym, ◌∙◌, ap}
 use lib.Dec.{eqb}
 use lib.ListN.{length}
 use borrow.Author.Tests.{le-leb, eqb-true}
+use Rattle.std.specs.Prelude.{Result, Ok}
 use Rattle.octets.specs.Told.{Told, refused, answered}
 use Rattle.octets.proofs.Tests.{cases}
 use Rattle.provisioning.specs.Layout.{sizes_of, sum}
-use Rattle.provisioning.specs.Message.{type_of, message_of, told as message_told}
+use Rattle.provisioning.specs.Message.{type_of, message_of, message_told, told as read_told}
 use Rattle.provisioning.specs.declared.Message.{Message}
+use Rattle.provisioning.specs.declared.MessageRefusal.{MessageRefusal}
 use Rattle.provisioning.proofs.Laws.{by-reading, by-type}
 use Rattle.message_view.specs.Reading.{size_of, value_at, field_at, told}
 use Rattle.message_view.specs.Promises.{wanted_size, read_all, read_to, fields_told, SameFields, ViewReadsFields}
 use Rattle.message_view.specs.declared.Step.{Step}
 use Rattle.message_view.specs.declared.FieldRead.{FieldRead}
+use Rattle.message_view.specs.declared.PastEnd.{PastEnd}
 
 -- a field that is asked for by its size has that size
 size_back : (n : ℕ) → size_of (wanted_size n) ≡ n
@@ -24,12 +27,12 @@ size_back n =
     (λ e. rw e (cases (eqb n 2) (λ g. rw g (sym (eqb-true n 2 g))) (λ g. rw g)))
 
 -- the values at the places that sizes give, one behind the other
-abbrev values : List ℕ → ℕ → List ℕ → List FieldRead
+abbrev values : List ℕ → ℕ → List ℕ → List (Result FieldRead PastEnd)
 values m place [] = []
-values m place (n ∷ ns) = value_at m place (wanted_size n) ∷ values m (place + n) ns
+values m place (n ∷ ns) = Ok (value_at m place (wanted_size n)) ∷ values m (place + n) ns
 
 -- within the message, each read gives its value and moves over it
-step_of : (m : List ℕ) (place n : ℕ) → place + n < 1 + length m → field_at m place (wanted_size n) ≡ record { next = place + n; field = value_at m place (wanted_size n) }
+step_of : (m : List ℕ) (place n : ℕ) → place + n < 1 + length m → field_at m place (wanted_size n) ≡ record { next = place + n; field = Ok (value_at m place (wanted_size n)) }
 unfolding field_at
 step_of m place n h = rw (size_back n, le-leb (place + n) (length m) (omega arith))
 
@@ -54,7 +57,7 @@ same-values m = by-type (λ (type : ℕ). map told (values m 1 (sizes_of type)) 
 
 pub view-reads-fields : ViewReadsFields
 view-reads-fields m name vs =
-    by-reading m (λ (x : Message). message_told x ≡ answered name vs → SameFields m vs)
+    by-reading m (λ (x : Result Message MessageRefusal). read_told x ≡ answered name vs → SameFields m vs)
     (λ r e. let z : ◌≡◌ {A = ℕ} 0 1 = cc in absurd (omega arith))
     (λ h r e. let v = read-values m 1 (sizes_of (type_of m)) r.long in
     record { fields = ap (map told) v.0 ∙ same-values m _ h ∙ ap (λ (t : Told). fields_told (sizes_of (type_of m)) (values_of t)) e; end = v.1 })

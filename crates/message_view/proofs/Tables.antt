@@ -9,7 +9,7 @@ use lib.ListN.{length}
 use Rattle.octets.specs.Tables.{first_of}
 use Rattle.octets.proofs.Tables.{distinct, by-table}
 use Rattle.octets.proofs.Tests.{cases, lt_not_le}
-use Rattle.message_view.specs.Reading.{size_of, value_at, field_at, told}
+use Rattle.message_view.specs.Reading.{size_of, value_at, field_at, field_told, told}
 use Rattle.message_view.specs.Tables.{length_of, is_past_end, field_row, field_rows, FieldTable, PlaceAfter}
 use Rattle.message_view.specs.declared.Wanted.{Wanted}
 use Rattle.message_view.specs.declared.Wanted.TheVariants as W
@@ -25,7 +25,7 @@ module _ (m : List ℕ) (place : ℕ) where
   past-not-within : (w : Wanted) → is_past_end m place w ≡ not (leb (place + size_of w) (length m))
   past-not-within w = rw (length-size w) (lt_not_le (length m) (place + size_of w))
 
-  row-value : (w : Wanted) → field_row m place w ≡ record { answer = told (value_at m place w); holds = true }
+  row-value : (w : Wanted) → field_row m place w ≡ record { answer = field_told (value_at m place w); holds = true }
   row-value W.Octet = refl
   row-value W.Pair = refl
   row-value (W.Long n) = refl

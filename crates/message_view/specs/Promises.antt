@@ -1,13 +1,14 @@
 -- What is promised of the view beyond its contracts. The proofs are `proofs/Promises.antt`.
-use Rattle.std.specs.Prelude.{ℕ, cond, List, [], ◌∷◌, map, ◌≡◌, leb, eqb, length, take, drop}
+use Rattle.std.specs.Prelude.{ℕ, cond, List, [], ◌∷◌, map, ◌≡◌, leb, eqb, length, take, drop, Result}
 use Prim.Native.String.{String}
 use Rattle.octets.specs.Told.{Told, answered}
 use Rattle.provisioning.specs.Layout.{sizes_of}
-use Rattle.provisioning.specs.Message.{type_of, message_read, told as message_told}
+use Rattle.provisioning.specs.Message.{type_of, message_read, told as read_told}
 use Rattle.message_view.specs.Reading.{field_at, told}
 use Rattle.message_view.specs.declared.Wanted.{Wanted}
 use Rattle.message_view.specs.declared.Wanted.TheVariants as W
 use Rattle.message_view.specs.declared.FieldRead.{FieldRead}
+use Rattle.message_view.specs.declared.PastEnd.{PastEnd}
 
 -- a field of a size, as it is asked for
 abbrev pub wanted_size : ℕ → Wanted
@@ -18,7 +19,7 @@ abbrev pub wanted_of : ℕ → List Wanted
 wanted_of type = map wanted_size (sizes_of type)
 
 -- fields read one after the other, each from where the one before ended
-abbrev pub read_all : List ℕ → ℕ → List Wanted → List FieldRead
+abbrev pub read_all : List ℕ → ℕ → List Wanted → List (Result FieldRead PastEnd)
 read_all m place [] = []
 read_all m place (w ∷ ws) = (field_at m place w).field ∷ read_all m (field_at m place w).next ws
 
@@ -45,4 +46,4 @@ pub record SameFields (m values : List ℕ) : Type 0 where
   pub end : read_to m 1 (wanted_of (type_of m)) ≡ length m
 
 abbrev pub ViewReadsFields : Type 0
-ViewReadsFields = (m : List ℕ) (name : String) (values : List ℕ) → message_told (message_read m) ≡ answered name values → SameFields m values
+ViewReadsFields = (m : List ℕ) (name : String) (values : List ℕ) → read_told (message_read m) ≡ answered name values → SameFields m values

@@ -21,20 +21,23 @@ pub enum Wanted {
     Long(usize),
 }
 
-// What was read. PastEnd is refusal 44.
+// What was read.
 #[derive(Clone, Copy)]
 pub enum FieldRead {
     Octet(u8),
     Pair(u16),
     Long(Field),
-    PastEnd,
 }
+
+// The field ends behind the message: refusal 44.
+#[derive(Clone, Copy, Debug, PartialEq, Eq)]
+pub struct PastEnd;
 
 // What was read, and the place behind it: the same place where it is past the end.
 #[derive(Clone, Copy)]
 pub struct Step {
     pub next: usize,
-    pub field: FieldRead,
+    pub field: Result<FieldRead, PastEnd>,
 }
 
 fn size_of(wanted: Wanted) -> usize
@@ -53,10 +56,7 @@ fn value_at(message: &[u8], place: usize, wanted: Wanted) -> FieldRead
     match wanted {
         Wanted::Octet => FieldRead::Octet(octet_at(message, place)),
         Wanted::Pair => FieldRead::Pair(read16(message, place)),
-        Wanted::Long(n) => FieldRead::Long(Field {
-            place: place,
-            length: n,
-        }),
+        Wanted::Long(n) => FieldRead::Long(Field { place, length: n }),
     }
 }
 
@@ -65,21 +65,15 @@ pub fn read_field(message: &[u8], place: usize, wanted: Wanted) -> Step
     ensures { result ≡ field_at message.now place wanted }
 {
     let size = size_of(wanted);
-    if message.len() < place {
+    if message.len() < place || message.len() - place < size {
         return Step {
             next: place,
-            field: FieldRead::PastEnd,
-        };
-    }
-    if message.len() - place < size {
-        return Step {
-            next: place,
-            field: FieldRead::PastEnd,
+            field: Err(PastEnd),
         };
     }
     Step {
         next: place + size,
-        field: value_at(message, place, wanted),
+        field: Ok(value_at(message, place, wanted)),
     }
 }
 
@@ -91,15 +85,13 @@ pub fn new<'a>(octets: &'a [u8]) -> View<'a>
 }
 
 // The next field of a view, which moves on behind it; past the end it stays where it is.
-pub fn take<'s, 'a>(view: &'s mut View<'a>, wanted: Wanted) -> FieldRead
+pub fn take<'s, 'a>(view: &'s mut View<'a>, wanted: Wanted) -> Result<FieldRead, PastEnd>
     ensures { (result ≡ (field_at view.old.octets.now view.old.place wanted).field)
         × (view.new.octets ≡ view.old.octets)
         × (view.new.place ≡ (field_at view.old.octets.now view.old.place wanted).next) }
 {
-    let place = view.place;
-    let step = read_field(view.octets, place, wanted);
-    let next = step.next;
-    view.place = next;
+    let step = read_field(view.octets, view.place, wanted);
+    view.place = step.next;
     step.field
 }
 
@@ -109,6 +101,8 @@ pub fn take_at(octets: &[u8], place: usize, wanted: Wanted) -> Step
 {
     let mut view = View { octets, place };
     let field = take(&mut view, wanted);
-    let next = view.place;
-    Step { next, field }
+    Step {
+        next: view.place,
+        field,
+    }
 }

@@ -13,14 +13,15 @@ use Rattle.octets.specs.Parts.{write, copy_fits, copied}
 use Rattle.octets.specs.Told.{answered}
 use Rattle.octets.specs.Writing.{told, is_written, written, output_after}
 use Rattle.octets.specs.Promises.{RefusalKeeps, WritesFront, writer_rows, WriterTable}
-use Rattle.octets.specs.declared.Written.TheVariants.{Count, WrongArgument}
 use Rattle.octets.proofs.Parts.{write-front, write-start}
 use Rattle.octets.proofs.Tables.{by-table}
 use Rattle.octets.proofs.Tests.{cases, both_hold}
+use Rattle.std.specs.Prelude.{Ok, Err}
+use Rattle.octets.specs.Writing.{wrong_argument}
 
 -- a writer whose octets fit
 module _ (d output : List ℕ) (fits : length d ≤ length output) where
-  pub written-fits : written true d output ≡ Count (length d)
+  pub written-fits : written true d output ≡ Ok (length d)
   unfolding written
   written-fits = rw (le-leb (length d) (length output) fits)
 
@@ -29,7 +30,7 @@ module _ (d output : List ℕ) (fits : length d ≤ length output) where
   output-fits = rw (le-leb (length d) (length output) fits)
 
 -- a writer with more octets than the output
-pub output-short : (d output : List ℕ) → length output < length d → (WrongArgument ≡ written true d output) × (output ≡ output_after true d output)
+pub output-short : (d output : List ℕ) → length output < length d → (Err wrong_argument ≡ written true d output) × (output ≡ output_after true d output)
 unfolding written output_after
 output-short d output h = rw (lt-leb (length d) (length output) h) (refl, refl)
 
@@ -66,7 +67,7 @@ wrote right d output n =
     (λ e. rw e (λ q. let z : ◌≡◌ {A = ℕ} 0 1 = cc in absurd (omega arith)))
 
 -- a writer with a wrong argument
-pub output-wrong : (right : Bool) (d output : List ℕ) → right ≡ false → (WrongArgument ≡ written right d output) × (output ≡ output_after right d output)
+pub output-wrong : (right : Bool) (d output : List ℕ) → right ≡ false → (Err wrong_argument ≡ written right d output) × (output ≡ output_after right d output)
 unfolding written output_after
 output-wrong right d output h = rw h (refl, refl)
 

@@ -5,14 +5,13 @@ ghost use Rattle.std.specs.Prelude.{◌≡◌, ◌<◌, get_or};
 ghost use Rattle.octets.specs.Numbers.{big16, big32, octets32};
 ghost use Rattle.octets.specs.Lengths.{is_length};
 
-// The answer of a writer to a lent output.
-#[derive(Clone, Copy)]
-pub enum Written {
-    // How many octets stand at the start of the output.
-    Count(usize),
-    // Refusal 11: an argument is wrong, or the output is too short. The output is as it was.
-    WrongArgument,
-}
+// Refusal 11: an argument is wrong.
+#[derive(Clone, Copy, Debug, PartialEq, Eq)]
+pub struct WrongArgument;
+
+// The answer of a writer to a lent output: how many octets stand at its start, or that an argument is wrong or the output too short; the output is
+// then as it was.
+pub type Written = Result<usize, WrongArgument>;
 
 // The octets of the longest message, over PB-ADV and over a proxy.
 pub const LONGEST_MESSAGE: usize = 1469;
@@ -21,11 +20,7 @@ pub const LONGEST_MESSAGE: usize = 1469;
 pub fn is_length(count: usize) -> bool
     ensures { result ≡ is_length count }
 {
-    if 1 <= count {
-        count <= LONGEST_MESSAGE
-    } else {
-        false
-    }
+    1 <= count && count <= LONGEST_MESSAGE
 }
 
 // The octet at a place; 0 past the end.
@@ -41,7 +36,7 @@ fn wide16(octet: u8) -> u16
     octet as u16
 }
 
-// The number in the two octets from a place on; octets past the end count as 0.
+// The number in the two octets from a place on; octets past the end count as 0, so that there are no two to hand to `from_be_bytes`.
 pub fn read16(octets: &[u8], at: usize) -> u16
     ensures { result ≡ big16 octets.now at }
 {
@@ -67,10 +62,5 @@ pub fn read32(octets: &[u8], at: usize) -> u32
 pub fn four_octets(value: u32) -> [u8; 4]
     ensures { result ≡ octets32 value }
 {
-    [
-        (value / 16777216) as u8,
-        (value / 65536 % 256) as u8,
-        (value / 256 % 256) as u8,
-        (value % 256) as u8,
-    ]
+    value.to_be_bytes()
 }

@@ -1,5 +1,8 @@
 -- The promises of `specs/Promises.antt`.
 use Prim.Native.Nat.{ℕ, ◌+◌, ◌*◌, ◌-◌, ◌/◌, ◌%◌, ◌≤◌, ◌<◌, min}
+use Rattle.pb_adv.specs.declared.Frame.{Frame}
+use Rattle.pb_adv.specs.declared.FrameRefusal.{FrameRefusal}
+use Rattle.std.specs.Prelude.{Result, Ok, Err}
 use native.Mathlib.Omega.{arith}
 use mathlib.Core.Bool.{true, ◌&&◌}
 use mathlib.Core.List.{List, [], ◌∷◌}
@@ -16,8 +19,7 @@ use Rattle.pb_adv.specs.Promises.{segment_said, Fits, IsEncoding, SegmentsAreEnc
 use Rattle.transactions.specs.declared.TransactionNumber.{TransactionNumber}
 use Rattle.pb_adv.specs.declared.SegmentHeader.{SegmentHeader}
 use Rattle.pb_adv.specs.declared.SegmentHeader.TheVariants.{Start, Continuation}
-use Rattle.pb_adv.specs.declared.Parsed.{Parsed}
-use Rattle.pb_adv.specs.declared.Parsed.TheVariants as P
+use Rattle.pb_adv.specs.declared.Frame.TheVariants as P
 use Rattle.pb_adv.proofs.Laws.{start_fits_lem}
 
 -- ---- parsing what was encoded
@@ -56,13 +58,13 @@ carried-segment id t (Continuation k) d = take-length d
 -- ---- what parses as a segment
 
 -- a frame that parses as a segment is its encoding; nothing is said of the others
-abbrev pub Said : List ℕ → Parsed → Type 0
-Said f (P.Segment s) = IsEncoding f s
-Said f (P.Acknowledgement id t) = Unit {0}
-Said f (P.Open id uuid) = Unit {0}
-Said f (P.Ack id) = Unit {0}
-Said f (P.Close id reason) = Unit {0}
-Said f (P.Refused r) = Unit {0}
+abbrev pub Said : List ℕ → Result Frame FrameRefusal → Type 0
+Said f (Ok (P.Segment s)) = IsEncoding f s
+Said f (Ok (P.Acknowledgement id t)) = Unit {0}
+Said f (Ok (P.Open id uuid)) = Unit {0}
+Said f (Ok (P.Ack id)) = Unit {0}
+Said f (Ok (P.Close id reason)) = Unit {0}
+Said f (Err r) = Unit {0}
 
 -- a frame of six octets and more, by its first octets
 module _ (a b c d t x : ℕ) (hb : b < 256) (hc : c < 256) (hd : d < 256) where

@@ -1,5 +1,8 @@
 -- Octets by what document 01 says of them: the kinds of `parsed`, and from them the table of `specs/Tables.antt`.
 use Prim.Native.Nat.{ℕ, ◌≤◌}
+use Rattle.pb_adv.specs.declared.Frame.{Frame}
+use Rattle.pb_adv.specs.declared.FrameRefusal.{FrameRefusal}
+use Rattle.std.specs.Prelude.{Result, Ok, Err}
 use native.Mathlib.Omega.{arith}
 use mathlib.Core.Bool.{Bool, true, false, ◌&&◌}
 use mathlib.Core.List.{List}
@@ -16,24 +19,23 @@ use Rattle.pb_adv.specs.Frame.{link_id, number_of, kind_of, high_bits, segment_f
 use Rattle.pb_adv.specs.Tables.{malformed, unknown_opcode, frame_rows, FrameTable}
 use Rattle.pb_adv.specs.declared.SegmentHeader.TheVariants.{Start, Continuation}
 use Rattle.pb_adv.specs.declared.FrameRefusal.TheVariants.{Malformed, UnknownOpcode}
-use Rattle.pb_adv.specs.declared.Parsed.{Parsed}
-use Rattle.pb_adv.specs.declared.Parsed.TheVariants as P
+use Rattle.pb_adv.specs.declared.Frame.TheVariants as P
 
 module _ (f : List ℕ) where
   -- a frame, by its kind and high bits
-  pub data IsFrame : Parsed → Type 0 where
+  pub data IsFrame : Result Frame FrameRefusal → Type 0 where
     start : kind_of f ≡ 0 → is_start f ≡ true → IsFrame (segment_from f (Start (big16 f 6) (get_or f 8 0)) 9)
-    acknowledgement : kind_of f ≡ 1 → IsFrame (P.Acknowledgement (link_id f) (number_of f))
+    acknowledgement : kind_of f ≡ 1 → IsFrame (Ok (P.Acknowledgement (link_id f) (number_of f)))
     continuation : kind_of f ≡ 2 → 1 ≤ high_bits f → IsFrame (segment_from f (Continuation (high_bits f)) 6)
-    opens : kind_of f ≡ 3 → high_bits f ≡ 0 → IsFrame (P.Open (link_id f) 6)
-    acks : kind_of f ≡ 3 → high_bits f ≡ 1 → IsFrame (P.Ack (link_id f))
-    closes : kind_of f ≡ 3 → high_bits f ≡ 2 → IsFrame (P.Close (link_id f) (get_or f 6 0))
+    opens : kind_of f ≡ 3 → high_bits f ≡ 0 → IsFrame (Ok (P.Open (link_id f) 6))
+    acks : kind_of f ≡ 3 → high_bits f ≡ 1 → IsFrame (Ok (P.Ack (link_id f)))
+    closes : kind_of f ≡ 3 → high_bits f ≡ 2 → IsFrame (Ok (P.Close (link_id f) (get_or f 6 0)))
 
   -- what octets say: 1, 2, or a frame
-  pub data Reads : Parsed → Type 0 where
-    no-frame : malformed f ≡ true → Reads (P.Refused Malformed)
-    unknown : malformed f ≡ false → unknown_opcode f ≡ true → Reads (P.Refused UnknownOpcode)
-    frame : {p : Parsed} → malformed f ≡ false → unknown_opcode f ≡ false → IsFrame p → Reads p
+  pub data Reads : Result Frame FrameRefusal → Type 0 where
+    no-frame : malformed f ≡ true → Reads (Err Malformed)
+    unknown : malformed f ≡ false → unknown_opcode f ≡ true → Reads (Err UnknownOpcode)
+    frame : {p : Result Frame FrameRefusal} → malformed f ≡ false → unknown_opcode f ≡ false → IsFrame p → Reads p
 
   abbrev sized : Bool
   sized = leb 6 (length f) && leb (length f) 29
@@ -71,7 +73,7 @@ module _ (f : List ℕ) where
       (λ k2. rw k2 (reads-control e (omega (arith, eqb-false (kind_of f) 0 k0, eqb-false (kind_of f) 1 k1, eqb-false (kind_of f) 2 k2))))))))))
       (λ e. rw e (no-frame (rw e)))
 
-by-frame : (f : List ℕ) (p : Parsed) → IsFrame f p → malformed f ≡ false → unknown_opcode f ≡ false → first_of (frame_rows f) ≡ some (told p)
+by-frame : (f : List ℕ) (p : Result Frame FrameRefusal) → IsFrame f p → malformed f ≡ false → unknown_opcode f ≡ false → first_of (frame_rows f) ≡ some (told p)
 by-frame f p (start k e) m n = rw (m, k)
 by-frame f p (acknowledgement k) m n = rw (m, k)
 by-frame f p (continuation k h) m n = rw (m, k)
@@ -79,7 +81,7 @@ by-frame f p (opens k h) m n = rw (m, k, h)
 by-frame f p (acks k h) m n = rw (m, k, h)
 by-frame f p (closes k h) m n = rw (m, k, h)
 
-by-reads : (f : List ℕ) (p : Parsed) → Reads f p → first_of (frame_rows f) ≡ some (told p)
+by-reads : (f : List ℕ) (p : Result Frame FrameRefusal) → Reads f p → first_of (frame_rows f) ≡ some (told p)
 by-reads f p (no-frame m) = rw m
 by-reads f p (unknown m n) = rw (m, n)
 by-reads f p (frame m n r) = by-frame f p r m n

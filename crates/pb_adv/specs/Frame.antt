@@ -1,5 +1,6 @@
 -- The PB-ADV frame: "Link ID 4, transaction number 1, then 1 to 24 octets whose first has the kind in its low two bits."
-use Rattle.std.specs.Prelude.{ℕ, ◌+◌, ◌-◌, ◌*◌, ◌/◌, ◌%◌, min, Bool, ◌&&◌, cond, List, [], ◌∷◌, ◌++◌, leb, eqb, length, get_or}
+use Rattle.std.specs.Prelude.{ℕ, ◌+◌, ◌-◌, ◌*◌, ◌/◌, ◌%◌, min, Bool, ◌&&◌, cond, List, [], ◌∷◌, ◌++◌, leb, eqb, length, get_or, Result, Ok, Err}
+use Rattle.pb_adv.specs.declared.Frame.{Frame}
 use Rattle.octets.specs.Numbers.{big16, big32, octets16, octets32}
 use Rattle.octets.specs.Parts.{part}
 use Rattle.octets.specs.Told.{Told, refused, answered}
@@ -11,8 +12,7 @@ use Rattle.pb_adv.specs.declared.SegmentHeader.TheVariants.{Start, Continuation}
 use Rattle.pb_adv.specs.declared.Segment.{Segment}
 use Rattle.pb_adv.specs.declared.FrameRefusal.{FrameRefusal}
 use Rattle.pb_adv.specs.declared.FrameRefusal.TheVariants.{Malformed, UnknownOpcode}
-use Rattle.pb_adv.specs.declared.Parsed.{Parsed}
-use Rattle.pb_adv.specs.declared.Parsed.TheVariants as P
+use Rattle.pb_adv.specs.declared.Frame.TheVariants as P
 
 -- ---- reading
 
@@ -31,36 +31,36 @@ abbrev pub high_bits : List ℕ → ℕ
 high_bits f = get_or f 5 0 / 4
 
 -- a segment whose octets stand in the frame from a place on
-abbrev pub segment_from : List ℕ → SegmentHeader → ℕ → Parsed
-segment_from f header from = P.Segment (record { id = link_id f; number = number_of f; header = header; from = from; count = length f - from })
+abbrev pub segment_from : List ℕ → SegmentHeader → ℕ → Result Frame FrameRefusal
+segment_from f header from = Ok (P.Segment (record { id = link_id f; number = number_of f; header = header; from = from; count = length f - from }))
 
 -- kind 0: "high bits SegN; length L in 2 octets; check octet; segment 0"
 unfoldable pub is_start : List ℕ → Bool
 is_start f = is_length (big16 f 6) && (eqb (high_bits f) (seg_n (big16 f 6)) && eqb (length f) (9 + min 20 (big16 f 6)))
 
-abbrev pub start_of : List ℕ → Parsed
+abbrev pub start_of : List ℕ → Result Frame FrameRefusal
 start_of f =
-    cond (is_start f) (segment_from f (Start (big16 f 6) (get_or f 8 0)) 9) (P.Refused Malformed)
+    cond (is_start f) (segment_from f (Start (big16 f 6) (get_or f 8 0)) 9) (Err Malformed)
 
 -- kind 1: "high bits 0, nothing after"
-abbrev pub acknowledgement_of : List ℕ → Parsed
+abbrev pub acknowledgement_of : List ℕ → Result Frame FrameRefusal
 acknowledgement_of f =
-    cond (eqb (high_bits f) 0 && eqb (length f) 6) (P.Acknowledgement (link_id f) (number_of f)) (P.Refused Malformed)
+    cond (eqb (high_bits f) 0 && eqb (length f) 6) (Ok (P.Acknowledgement (link_id f) (number_of f))) (Err Malformed)
 
 -- kind 2: "high bits the segment number; the segment"; not numbered 0, and with an octet
-abbrev pub continuation_of : List ℕ → Parsed
+abbrev pub continuation_of : List ℕ → Result Frame FrameRefusal
 continuation_of f =
-    cond (leb 1 (high_bits f) && leb 7 (length f)) (segment_from f (Continuation (high_bits f)) 6) (P.Refused Malformed)
+    cond (leb 1 (high_bits f) && leb 7 (length f)) (segment_from f (Continuation (high_bits f)) 6) (Err Malformed)
 
 -- kind 3: "high bits 0 Open (16-octet UUID), 1 Ack (nothing), 2 Close (one reason)"; the length inside an unknown opcode isn't judged
-unfoldable pub control_of : List ℕ → Parsed
+unfoldable pub control_of : List ℕ → Result Frame FrameRefusal
 control_of f =
-    cond (eqb (high_bits f) 0) (cond (eqb (length f) 22) (P.Open (link_id f) 6) (P.Refused Malformed))
-    (cond (eqb (high_bits f) 1) (cond (eqb (length f) 6) (P.Ack (link_id f)) (P.Refused Malformed))
-    (cond (eqb (high_bits f) 2) (cond (eqb (length f) 7) (P.Close (link_id f) (get_or f 6 0)) (P.Refused Malformed))
-    (P.Refused UnknownOpcode)))
+    cond (eqb (high_bits f) 0) (cond (eqb (length f) 22) (Ok (P.Open (link_id f) 6)) (Err Malformed))
+    (cond (eqb (high_bits f) 1) (cond (eqb (length f) 6) (Ok (P.Ack (link_id f))) (Err Malformed))
+    (cond (eqb (high_bits f) 2) (cond (eqb (length f) 7) (Ok (P.Close (link_id f) (get_or f 6 0))) (Err Malformed))
+    (Err UnknownOpcode)))
 
-abbrev pub by_kind : List ℕ → Parsed
+abbrev pub by_kind : List ℕ → Result Frame FrameRefusal
 by_kind f =
     cond (eqb (kind_of f) 0) (start_of f)
     (cond (eqb (kind_of f) 1) (acknowledgement_of f)
@@ -68,17 +68,25 @@ by_kind f =
     (control_of f)))
 
 -- WHAT OCTETS SAY AS A FRAME, or refusal 1 or 2
-unfoldable pub parsed : List ℕ → Parsed
-parsed f = cond (leb 6 (length f) && leb (length f) 29) (by_kind f) (P.Refused Malformed)
+unfoldable pub parsed : List ℕ → Result Frame FrameRefusal
+parsed f = cond (leb 6 (length f) && leb (length f) 29) (by_kind f) (Err Malformed)
+
+-- the Link ID of a frame
+abbrev pub id_of : Frame → ℕ
+id_of (P.Segment s) = s.id
+id_of (P.Acknowledgement id t) = id
+id_of (P.Open id uuid) = id
+id_of (P.Ack id) = id
+id_of (P.Close id reason) = id
 
 -- the octets that a frame carries by place: a segment's, or an Open's UUID
-abbrev pub carried : List ℕ → Parsed → List ℕ
-carried f (P.Segment s) = part f s.from s.count
-carried f (P.Acknowledgement id t) = []
-carried f (P.Open id uuid) = part f uuid 16
-carried f (P.Ack id) = []
-carried f (P.Close id reason) = []
-carried f (P.Refused r) = []
+abbrev pub carried : List ℕ → Result Frame FrameRefusal → List ℕ
+carried f (Ok (P.Segment s)) = part f s.from s.count
+carried f (Ok (P.Acknowledgement id t)) = []
+carried f (Ok (P.Open id uuid)) = part f uuid 16
+carried f (Ok (P.Ack id)) = []
+carried f (Ok (P.Close id reason)) = []
+carried f (Err r) = []
 
 -- the number of a segment in its message
 abbrev pub index_of : SegmentHeader → ℕ
@@ -101,13 +109,13 @@ told_segment s (Start n c) = answered "Start" (s.id ∷ s.number.0 ∷ n ∷ c �
 told_segment s (Continuation k) = answered "Continuation" (s.id ∷ s.number.0 ∷ k ∷ s.from ∷ s.count ∷ [])
 
 -- the frame's kind and values
-abbrev pub told : Parsed → Told
-told (P.Segment s) = told_segment s s.header
-told (P.Acknowledgement id t) = answered "Acknowledgement" (id ∷ t.0 ∷ [])
-told (P.Open id uuid) = answered "Open" (id ∷ uuid ∷ [])
-told (P.Ack id) = answered "Ack" (id ∷ [])
-told (P.Close id reason) = answered "Close" (id ∷ reason ∷ [])
-told (P.Refused r) = refused (refusal_number r)
+abbrev pub told : Result Frame FrameRefusal → Told
+told (Ok (P.Segment s)) = told_segment s s.header
+told (Ok (P.Acknowledgement id t)) = answered "Acknowledgement" (id ∷ t.0 ∷ [])
+told (Ok (P.Open id uuid)) = answered "Open" (id ∷ uuid ∷ [])
+told (Ok (P.Ack id)) = answered "Ack" (id ∷ [])
+told (Ok (P.Close id reason)) = answered "Close" (id ∷ reason ∷ [])
+told (Err r) = refused (refusal_number r)
 
 -- ---- the octets of each frame
 

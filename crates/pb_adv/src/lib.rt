@@ -1,6 +1,9 @@
 // PB-ADV frames: what octets say as a frame.
 #![tactic(auto)]
 
+ghost use Rattle.std.specs.Prelude.{◌≡◌};
+ghost use Rattle.pb_adv.specs.Frame.{id_of};
+
 mod parsing;
 
 pub use parsing::parse;
@@ -25,23 +28,37 @@ pub struct Segment {
     pub count: usize,
 }
 
-// Why octets are no frame.
-#[derive(Clone, Copy)]
-pub enum FrameRefusal {
-    // Refusal 1: not 6 to 29 octets, or a body that does not fit its kind.
-    Malformed,
-    // Refusal 2: a control opcode from 3 to 63.
-    UnknownOpcode,
-}
-
 // What octets say as a frame. id is the Link ID.
 #[derive(Clone, Copy)]
-pub enum Parsed {
+pub enum Frame {
     Segment(Segment),
     Acknowledgement { id: u32, number: TransactionNumber },
     // The 16 octets of the UUID stand in the frame from place uuid on.
     Open { id: u32, uuid: usize },
     Ack { id: u32 },
     Close { id: u32, reason: u8 },
-    Refused(FrameRefusal),
+}
+
+impl Frame {
+    // Its Link ID.
+    pub fn id(self) -> u32
+        ensures { result ≡ id_of self }
+    {
+        match self {
+            Frame::Segment(segment) => segment.id,
+            Frame::Acknowledgement { id, number: _ } => id,
+            Frame::Open { id, uuid: _ } => id,
+            Frame::Ack { id } => id,
+            Frame::Close { id, reason: _ } => id,
+        }
+    }
+}
+
+// Why octets are no frame.
+#[derive(Clone, Copy, Debug, PartialEq, Eq)]
+pub enum FrameRefusal {
+    // Refusal 1: not 6 to 29 octets, or a body that does not fit its kind.
+    Malformed,
+    // Refusal 2: a control opcode from 3 to 63.
+    UnknownOpcode,
 }

@@ -1,5 +1,8 @@
 -- The promises of `specs/Promises.antt`.
 use Prim.Native.Nat.{ℕ, zero, suc, ◌≤◌, min}
+use Rattle.pb_adv.specs.declared.Frame.{Frame}
+use Rattle.pb_adv.specs.declared.FrameRefusal.{FrameRefusal}
+use Rattle.std.specs.Prelude.{Result}
 use native.Mathlib.Omega.{arith}
 use mathlib.Core.Bool.{Bool, true}
 use mathlib.Core.List.{List, [], ◌∷◌, ◌++◌, map}
@@ -19,7 +22,6 @@ use Rattle.transactions.specs.Segments.{seg_n, segment_place, segment_length, se
 use Rattle.pb_adv.specs.Frame.{parsed, carried, index_of, acknowledgement_octets, open_octets, ack_octets, close_octets, control_of, is_uuid}
 use Rattle.pb_adv.specs.Promises.{segment_said, Fits}
 use Rattle.transactions.specs.declared.TransactionNumber.{TransactionNumber}
-use Rattle.pb_adv.specs.declared.Parsed.{Parsed}
 use Rattle.transactions.proofs.Laws.{segment-begins, seg_n-small, segment-long}
 use Rattle.pb_adv.proofs.Promises.{id-back, by-kind, parsed-segment, carried-segment}
 use Rattle.pb_adv_writing.specs.Writing.{header_of, segment_frame, is_segment, SegmentAsked}
@@ -29,7 +31,7 @@ use Rattle.pb_adv_writing.proofs.Laws.{segment-asked}
 -- ---- writers
 
 -- a writer gives back what its frame says, if its arguments are right
-gives_back : (right : Bool) (frame output : List ℕ) (p : Parsed) (d : List ℕ) → (right ≡ true → (parsed frame ≡ p) × (carried frame p ≡ d)) → GivesBack right frame output p d
+gives_back : (right : Bool) (frame output : List ℕ) (p : Result Frame FrameRefusal) (d : List ℕ) → (right ≡ true → (parsed frame ≡ p) × (carried frame p ≡ d)) → GivesBack right frame output p d
 gives_back right frame output p d h n e =
     let w = wrote right frame output n e in
     rw w.1 (h w.0)

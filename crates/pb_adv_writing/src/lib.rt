@@ -7,7 +7,7 @@ ghost use Rattle.pb_adv.specs.Frame.{acknowledgement_octets};
 ghost use Rattle.pb_adv_writing.specs.Writing.{is_segment, segment_frame, SegmentAsked};
 
 use frame_writing::write_frame;
-use octets::Written;
+use octets::{Written, WrongArgument};
 use transactions::{TransactionNumber, last_segment, segment_length, segment_place};
 
 // Writes an acknowledgement of a transaction number.
@@ -27,6 +27,7 @@ fn put_start(id: u32, number: TransactionNumber, message: &[u8], output: &mut [u
     let count = segment_length(length, 0);
     let check = fcs::check_octet(message);
     let kind = (4 * last_segment(length)) as u8;
+    // By hand and not by `to_be_bytes`: of a pattern over its octets the check knows no values.
     let fields = [(length / 256) as u8, (length % 256) as u8, check];
     write_frame(output, id, number, kind, &fields, &message[..count])
 }
@@ -59,11 +60,8 @@ pub fn write_segment(
     ensures { (result ≡ written (is_segment message.now index) (segment_frame id number message.now index) output.old)
         × (output.new ≡ output_after (is_segment message.now index) (segment_frame id number message.now index) output.old) }
 {
-    if !octets::is_length(message.len()) {
-        return Written::WrongArgument;
-    }
-    if (last_segment(message.len() as u16) as usize) < index {
-        return Written::WrongArgument;
+    if !octets::is_length(message.len()) || (last_segment(message.len() as u16) as usize) < index {
+        return Err(WrongArgument);
     }
     if index == 0 {
         return put_start(id, number, message, output);

@@ -8,6 +8,7 @@ use lib.Dec.{leb, eqb}
 use lib.ListN.{length, get_or, drop, take-append-drop}
 use lib.Seq.{drop-cons, drop-drop, drop-length}
 use borrow.Author.Tests.{leb-false, eqb-true}
+use Rattle.std.specs.Prelude.{Result, Ok, Err}
 use Rattle.octets.specs.Numbers.{Octets, big16, octets16}
 use Rattle.octets.specs.Parts.{part}
 use Rattle.octets.proofs.Tests.{cases}
@@ -16,7 +17,6 @@ use Rattle.provisioning.specs.Message.{type_of, message_of, is_prohibited, messa
 use Rattle.provisioning.specs.declared.MessageRefusal.{MessageRefusal}
 use Rattle.provisioning.specs.declared.MessageRefusal.TheVariants as R
 use Rattle.provisioning.specs.declared.Message.{Message}
-use Rattle.provisioning.specs.declared.Message.TheVariants as M
 
 -- ---- cases
 
@@ -26,8 +26,8 @@ pub record Read (m : List ℕ) (type : ℕ) : Type 0 where
   pub long : length m ≡ 1 + parameter_length type
 
 -- a message that was read is a refusal, or the message of its type
-pub by-reading : (m : List ℕ) (P : Message → Type 0) → ((r : MessageRefusal) → P (M.Refused r))
-    → (type_of m < 10 → Read m (type_of m) → P (message_of m (type_of m))) → P (message_read m)
+pub by-reading : (m : List ℕ) (P : Result Message MessageRefusal → Type 0) → ((r : MessageRefusal) → P (Err r))
+    → (type_of m < 10 → Read m (type_of m) → P (Ok (message_of m (type_of m)))) → P (message_read m)
 unfolding message_read
 by-reading m P refused taken =
     let n = 1 + parameter_length (type_of m) in

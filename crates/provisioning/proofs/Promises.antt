@@ -9,12 +9,14 @@ use lib.Dec.{eqb}
 use lib.ListN.{length, get_or}
 use borrow.Author.Tests.{eqb-true}
 use text.Mathlib.TextPositions.{eq_refl}
+use Rattle.std.specs.Prelude.{Result}
 use Rattle.octets.specs.Told.{answered}
 use Rattle.octets.proofs.Tables.{alike}
 use Rattle.provisioning.specs.Layout.{sizes_of}
-use Rattle.provisioning.specs.Message.{type_of, message_of, told}
+use Rattle.provisioning.specs.Message.{type_of, message_of, message_told, told}
 use Rattle.provisioning.specs.Promises.{number_octets, long_octets, Says, AllFieldsAreOctets, CapabilitiesInPlace}
 use Rattle.provisioning.specs.declared.Message.{Message}
+use Rattle.provisioning.specs.declared.MessageRefusal.{MessageRefusal}
 use Rattle.provisioning.proofs.Laws.{Read, by-reading, by-type, parts, layout-all, one-part, two-part}
 
 -- ---- a name is that of one type
@@ -27,17 +29,17 @@ each-type : (f : ℕ → Bool) (type : ℕ) → type < 10 → get_or (map f type
 each-type f = by-type (λ (type : ℕ). get_or (map f types) type false ≡ f type) refl refl refl refl refl refl refl refl refl refl
 
 abbrev has_name : List ℕ → String → ℕ → Bool
-has_name m name type = alike (answered name []) (told (message_of m type))
+has_name m name type = alike (answered name []) (message_told (message_of m type))
 
 -- octets that are read as a message of a name, where of the ten types one alone has it
 pub record Named (m : List ℕ) (name : String) (type : ℕ) (values : List ℕ) : Type 0 where
   pub read : Read m type
-  pub says : told (message_of m type) ≡ answered name values
+  pub says : message_told (message_of m type) ≡ answered name values
 
 named : (m : List ℕ) (name : String) (type : ℕ) → map (has_name m name) types ≡ map (λ (t : ℕ). eqb t type) types → (values : List ℕ) → Says m name values
     → Named m name type values
 named m name type alone values =
-    by-reading m (λ (x : Message). told x ≡ answered name values → Named m name type values)
+    by-reading m (λ (x : Result Message MessageRefusal). told x ≡ answered name values → Named m name type values)
     (λ r e. let z : ◌≡◌ {A = ℕ} 0 1 = cc in absurd (omega arith))
     (λ h r e.
     let same : has_name m name (type_of m) ≡ eqb (type_of m) type =
@@ -50,7 +52,7 @@ named m name type alone values =
 module _ (m : List ℕ) where
   -- the values of the message of a type, where their octets are the parts that the layout cuts out
   by_name : (name : String) (type : ℕ) → map (has_name m name) types ≡ map (λ (t : ℕ). eqb t type) types
-      → (octets : List ℕ → List ℕ) (found : List ℕ) → told (message_of m type) ≡ answered name found
+      → (octets : List ℕ → List ℕ) (found : List ℕ) → message_told (message_of m type) ≡ answered name found
       → (Read m type → parts m 1 (sizes_of type) ≡ octets found) → (values : List ℕ) → Says m name values → m ≡ type ∷ octets values
   by_name name type alone octets found e laid values says =
       let n = named m name type alone values says in

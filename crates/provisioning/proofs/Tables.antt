@@ -4,6 +4,7 @@ use native.Mathlib.Omega.{arith}
 use mathlib.Core.Bool.{Bool, true, false, ◌&&◌, ◌||◌, not, cond, or-false}
 use mathlib.Core.List.{List}
 use mathlib.Core.Option.{Option, some}
+use Rattle.std.specs.Prelude.{Err}
 use mathlib.Core.Path.{◌≡◌, refl, ap, ◌∙◌}
 use lib.Dec.{leb, eqb}
 use lib.ListN.{length}
@@ -12,12 +13,11 @@ use Rattle.octets.specs.Told.{Told, refused}
 use Rattle.octets.specs.Tables.{first_of}
 use Rattle.octets.proofs.Tables.{by-table}
 use Rattle.octets.proofs.Tests.{cases}
-use Rattle.provisioning.specs.Message.{choice_of, message_of, prohibited_capabilities, prohibited_choice, is_prohibited, judged, message_read, told}
+use Rattle.provisioning.specs.Message.{choice_of, message_of, prohibited_capabilities, prohibited_choice, is_prohibited, judged, message_read, message_told, told}
 use Rattle.provisioning.specs.Tables.{octet, prohibited_in_start, prohibited_in_capabilities, prohibited_in_failed, message_rows}
 use Rattle.provisioning.specs.Promises.{MessageTable}
 use Rattle.provisioning.specs.declared.MessageRefusal.TheVariants as R
 use Rattle.provisioning.specs.declared.Message.{Message}
-use Rattle.provisioning.specs.declared.Message.TheVariants as M
 use Rattle.provisioning.proofs.Laws.{by-type}
 
 -- ---- 45 in Start
@@ -41,8 +41,8 @@ start-same m = ap (λ (t : Bool). leb 2 (octet m 2) || t) (by-method (octet m 3)
 known : (m : List ℕ) (long : ℕ) (prohibited : Bool) (message : Message) → prohibited ≡ is_prohibited message
     → ◌≡◌ {A = Option Told}
     (cond (eqb (length m) 0) (some (refused 41))
-    (cond (not (eqb (length m) long)) (some (refused 44)) (cond prohibited (some (refused 45)) (some (told message)))))
-    (some (told (cond (eqb (length m) 0) (M.Refused R.Empty) (cond (eqb (length m) long) (judged message) (M.Refused R.WrongLength)))))
+    (cond (not (eqb (length m) long)) (some (refused 44)) (cond prohibited (some (refused 45)) (some (message_told message)))))
+    (some (told (cond (eqb (length m) 0) (Err R.Empty) (cond (eqb (length m) long) (judged message) (Err R.WrongLength)))))
 known m long prohibited message e =
     rw e
     (cases (eqb (length m) 0) (λ e. rw e)

@@ -1,5 +1,5 @@
 -- What octets say as a provisioning message: its fields where the layout has them, or refusals 41 to 45 in that order.
-use Rattle.std.specs.Prelude.{ℕ, ◌+◌, Bool, false, ◌||◌, not, cond, List, [], ◌∷◌, ◌++◌, leb, eqb, length, get_or}
+use Rattle.std.specs.Prelude.{ℕ, ◌+◌, Bool, false, ◌||◌, not, cond, List, [], ◌∷◌, ◌++◌, leb, eqb, length, get_or, Result, Ok, Err}
 use Rattle.octets.specs.Numbers.{big16}
 use Rattle.octets.specs.Told.{Told, refused, answered}
 use Rattle.provisioning.specs.Layout.{parameter_length, field_place, field_size}
@@ -85,24 +85,23 @@ is_prohibited (M.Random r) = false
 is_prohibited (M.Data d mic) = false
 is_prohibited M.Complete = false
 is_prohibited (M.Failed code) = eqb code 0
-is_prohibited (M.Refused r) = false
 
 -- 45, or the message
-abbrev pub judged : Message → Message
-judged message = cond (is_prohibited message) (M.Refused R.Prohibited) message
+abbrev pub judged : Message → Result Message MessageRefusal
+judged message = cond (is_prohibited message) (Err R.Prohibited) (Ok message)
 
 -- ---- WHAT OCTETS SAY AS A MESSAGE: 41, 42, 43, 44, 45, or the message
 
 abbrev pub type_of : List ℕ → ℕ
 type_of m = get_or m 0 0
 
-unfoldable pub message_read : List ℕ → Message
+unfoldable pub message_read : List ℕ → Result Message MessageRefusal
 message_read m =
-    cond (eqb (length m) 0) (M.Refused R.Empty)
-    (cond (leb 0x40 (type_of m)) (M.Refused R.Padding)
-    (cond (leb 10 (type_of m)) (M.Refused R.UnknownType)
+    cond (eqb (length m) 0) (Err R.Empty)
+    (cond (leb 0x40 (type_of m)) (Err R.Padding)
+    (cond (leb 10 (type_of m)) (Err R.UnknownType)
     (cond (eqb (length m) (1 + parameter_length (type_of m))) (judged (message_of m (type_of m)))
-    (M.Refused R.WrongLength))))
+    (Err R.WrongLength))))
 
 -- document 01's number of a refusal
 abbrev pub refusal_number : MessageRefusal → ℕ
@@ -117,9 +116,9 @@ abbrev pub field_values : Field → List ℕ
 field_values f = f.place ∷ f.length ∷ []
 
 -- the message's name and its fields, in the order of the layout
-abbrev pub told : Message → Told
-told (M.Invite attention) = answered "Invite" (attention ∷ [])
-told (M.Capabilities c) =
+abbrev pub message_told : Message → Told
+message_told (M.Invite attention) = answered "Invite" (attention ∷ [])
+message_told (M.Capabilities c) =
     answered "Capabilities" (
     c.elements
     ∷ c.algorithms
@@ -131,12 +130,16 @@ told (M.Capabilities c) =
     ∷ c.input_oob_action
     ∷ []
     )
-told (M.Start c) = answered "Start" (c.algorithm ∷ c.public_key ∷ c.method ∷ c.action ∷ c.size ∷ [])
-told (M.PublicKey x y) = answered "Public Key" (field_values x ++ field_values y)
-told M.InputComplete = answered "Input Complete" []
-told (M.Confirmation c) = answered "Confirmation" (field_values c)
-told (M.Random r) = answered "Random" (field_values r)
-told (M.Data d mic) = answered "Data" (field_values d ++ field_values mic)
-told M.Complete = answered "Complete" []
-told (M.Failed code) = answered "Failed" (code ∷ [])
-told (M.Refused r) = refused (refusal_number r)
+message_told (M.Start c) = answered "Start" (c.algorithm ∷ c.public_key ∷ c.method ∷ c.action ∷ c.size ∷ [])
+message_told (M.PublicKey x y) = answered "Public Key" (field_values x ++ field_values y)
+message_told M.InputComplete = answered "Input Complete" []
+message_told (M.Confirmation c) = answered "Confirmation" (field_values c)
+message_told (M.Random r) = answered "Random" (field_values r)
+message_told (M.Data d mic) = answered "Data" (field_values d ++ field_values mic)
+message_told M.Complete = answered "Complete" []
+message_told (M.Failed code) = answered "Failed" (code ∷ [])
+
+-- the reader's answer: the message, or the refusal by its number
+abbrev pub told : Result Message MessageRefusal → Told
+told (Ok message) = message_told message
+told (Err r) = refused (refusal_number r)

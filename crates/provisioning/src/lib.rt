@@ -12,8 +12,8 @@ pub struct Field {
     pub length: usize,
 }
 
-// What a device can do.
-#[derive(Clone, Copy)]
+// What a device can do. Its numbers, and those of a choice, stay numbers: a message tells any that isn't prohibited as it stands (message_of).
+#[derive(Clone, Copy, PartialEq, Eq)]
 pub struct Capabilities {
     pub elements: u8,
     pub algorithms: u16,
@@ -36,7 +36,7 @@ pub struct Choice {
 }
 
 // Why octets are no message.
-#[derive(Clone, Copy)]
+#[derive(Clone, Copy, Debug, PartialEq, Eq)]
 pub enum MessageRefusal {
     // Refusal 41.
     Empty,
@@ -63,5 +63,4 @@ pub enum Message {
     Data { encrypted: Field, mic: Field },
     Complete,
     Failed { code: u8 },
-    Refused(MessageRefusal),
 }

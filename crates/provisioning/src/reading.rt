@@ -15,6 +15,7 @@ ghost use Rattle.provisioning.specs.Message.{
 use super::{Capabilities, Choice, Field, Message, MessageRefusal};
 use octets::{octet_at, read16};
 
+// Stays a number: an enum between the type octet and the message would name each type once more, which is no plainer.
 fn parameter_length(kind: u8) -> usize
     ensures { (result ≡ parameter_length kind) × (result ≤ 64) }
 {
@@ -63,13 +64,11 @@ fn choice(message: &[u8]) -> Choice
 fn field(place: usize, length: usize) -> Field
     ensures { result ≡ record { place = place; length = length } }
 {
-    Field {
-        place: place,
-        length: length,
-    }
+    Field { place, length }
 }
 
 // The message of a type, 0 to 9.
+#[tactic(auto, using(octets::proofs::Tests::tests), unfolding(crate::specs::Message::message_of))]
 fn message_of(message: &[u8], kind: u8) -> Message
     ensures { result ≡ message_of message.now kind }
 {
@@ -101,34 +100,25 @@ fn message_of(message: &[u8], kind: u8) -> Message
     }
 }
 
+#[tactic(auto, using(octets::proofs::Tests::tests), unfolding(crate::specs::Message::prohibited_capabilities))]
 fn prohibited_capabilities(c: Capabilities) -> bool
     ensures { result ≡ prohibited_capabilities c }
 {
-    if c.elements == 0 {
-        return true;
-    }
-    if 2 <= c.public_key_type {
-        return true;
-    }
-    2 <= c.static_oob_type
+    c.elements == 0 || 2 <= c.public_key_type || 2 <= c.static_oob_type
 }
 
+#[tactic(auto, using(octets::proofs::Tests::tests), unfolding(crate::specs::Message::prohibited_choice))]
 fn prohibited_choice(c: Choice) -> bool
     ensures { result ≡ prohibited_choice c }
 {
-    if 2 <= c.public_key {
-        return true;
-    }
-    if 4 <= c.method {
+    if 2 <= c.public_key || 4 <= c.method {
         return true;
     }
     if c.method <= 1 {
-        if c.action == 0 {
-            return c.size != 0;
-        }
-        return true;
+        c.action != 0 || c.size != 0
+    } else {
+        c.size == 0
     }
-    c.size == 0
 }
 
 fn is_prohibited(message: Message) -> bool
@@ -142,33 +132,33 @@ fn is_prohibited(message: Message) -> bool
     }
 }
 
-fn judge(message: Message) -> Message
+fn judge(message: Message) -> Result<Message, MessageRefusal>
     ensures { result ≡ judged message }
 {
     if is_prohibited(message) {
-        Message::Refused(MessageRefusal::Prohibited)
+        Err(MessageRefusal::Prohibited)
     } else {
-        message
+        Ok(message)
     }
 }
 
 // What any octets say as a provisioning message, or refusals 41 to 45 in that order.
-pub fn read_message(message: &[u8]) -> Message
+#[tactic(auto, using(octets::proofs::Tests::tests), unfolding(crate::specs::Message::message_read))]
+pub fn read_message(message: &[u8]) -> Result<Message, MessageRefusal>
     ensures { result ≡ message_read message.now }
 {
-    if message.len() == 0 {
-        return Message::Refused(MessageRefusal::Empty);
+    if message.is_empty() {
+        return Err(MessageRefusal::Empty);
     }
     let kind = message[0];
     if 0x40 <= kind {
-        return Message::Refused(MessageRefusal::Padding);
+        return Err(MessageRefusal::Padding);
     }
     if 10 <= kind {
-        return Message::Refused(MessageRefusal::UnknownType);
+        return Err(MessageRefusal::UnknownType);
     }
-    if message.len() == 1 + parameter_length(kind) {
-        judge(message_of(message, kind))
-    } else {
-        Message::Refused(MessageRefusal::WrongLength)
+    if message.len() != 1 + parameter_length(kind) {
+        return Err(MessageRefusal::WrongLength);
     }
+    judge(message_of(message, kind))
 }

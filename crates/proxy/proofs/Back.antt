@@ -5,6 +5,7 @@ use mathlib.Core.Bool.{true, false, ◌||◌}
 use mathlib.Core.List.{List, [], ◌∷◌, ◌++◌, map}
 use mathlib.Core.Path.{◌≡◌, refl, sym, ap, ◌∙◌}
 use lib.Dec.{eqb}
+use Rattle.std.specs.Prelude.{Option, Some, None, Ok}
 use lib.ListN.{length, drop, replicate}
 use borrow.Author.Tests.{ltb-true, ltb-false, eqb-true, le-leb, eq-eqb, ne_eqb}
 use Rattle.octets.specs.Parts.{write}
@@ -17,17 +18,16 @@ use Rattle.proxy.specs.Pieces.{is_type, piece_place, last_piece, is_whole, top_b
 use Rattle.proxy.specs.Transfers.{is_good, is_refused, top_of, type_of, is_expected, is_like_first, held_length, complete, added, joining, offered, piece_read, buffer_after, told}
 use Rattle.proxy.specs.Promises.{emptied, Run, run}
 use Rattle.proxy.specs.declared.HalfTransfer.{HalfTransfer}
-use Rattle.proxy.specs.declared.HalfTransfer.TheVariants.{Nothing, Held}
 use Rattle.proxy.specs.declared.Transfer.{Transfer}
 use Rattle.proxy.specs.declared.PieceAnswer.TheVariants as A
 use Rattle.proxy.proofs.Laws.{begins, last-ends, one_piece, more-pieces, place-next, data-long}
 
 -- connected, with this half-received
-abbrev holding : HalfTransfer → Transfer
+abbrev holding : Option HalfTransfer → Transfer
 holding h = record { connected = true; half = h }
 
 -- a piece that meets no refusal
-read-good : (h : HalfTransfer) (p : List ℕ) → is_good (holding h) ≡ true → 2 ≤ length p → is_type (type_of p) ≡ true
+read-good : (h : Option HalfTransfer) (p : List ℕ) → is_good (holding h) ≡ true → 2 ≤ length p → is_type (type_of p) ≡ true
     → is_expected h (top_of p) ≡ true → is_like_first h (type_of p) ≡ true → held_length h + (length p - 1) ≤ 1469
     → piece_read (holding h) 1469 p ≡ added (top_of p) (type_of p) (held_length h + (length p - 1))
 unfolding piece_read offered joining
@@ -62,9 +62,9 @@ module _ (z t : ℕ) (m : List ℕ) (asked : CutAsked z (length m)) (small : t �
   N = last_piece z n
 
   -- what is held before piece k
-  abbrev held_at : ℕ → HalfTransfer
-  held_at zero = Nothing
-  held_at (suc k) = Held t (piece_place z (suc k))
+  abbrev held_at : ℕ → Option HalfTransfer
+  held_at zero = None
+  held_at (suc k) = Some (record { kind = t; length = piece_place z (suc k) })
 
   expected-top : (k : ℕ) → k ≤ N → is_expected (held_at k) (top_bits z n k) ≡ true
   unfolding top_bits
@@ -137,7 +137,7 @@ module _ (z t : ℕ) (m : List ℕ) (asked : CutAsked z (length m)) (small : t �
       (omega (arith, ends k h, asked.few-octets))
       ∙ rw (top_back k, type-back k, ends k h)
 
-  more : (k : ℕ) → k < N → piece_read (holding (held_at k)) 1469 (piece_octets z t m k) ≡ record { transfer = holding (held_at (suc k)); answer = A.More }
+  more : (k : ℕ) → k < N → piece_read (holding (held_at k)) 1469 (piece_octets z t m k) ≡ record { transfer = holding (held_at (suc k)); answer = Ok A.More }
   unfolding added
   more k h =
       let e : min (piece_place z (suc k)) n ≡ piece_place z (suc k) = omega (arith, begins z n asked (suc k) h) in

@@ -7,6 +7,7 @@ use mathlib.Core.Bool.{Bool, true, false, ◌||◌}
 use mathlib.Core.List.{List, [], ◌∷◌, map, map-map}
 use mathlib.Core.Path.{◌≡◌, refl, sym, ap, ◌∙◌}
 use lib.Dec.{eqb}
+use Rattle.std.specs.Prelude.{Some}
 use lib.ListN.{length, length-drop}
 use lib.Seq.{take_all}
 use borrow.Author.Tests.{leb-true, le-leb, lt-ltb}
@@ -19,7 +20,6 @@ use Rattle.octets.proofs.Writing.{wrote}
 use Rattle.proxy.specs.Pieces.{is_piece, piece_place, last_piece, top_bits, piece_octets, message_pieces}
 use Rattle.proxy.specs.Transfers.{is_good, set_connected, type_of, data_of, top_of, held_length, added, piece_read, is_refused, buffer_after, refusal_number, told}
 use Rattle.proxy.specs.Promises.{emptied, disconnects, RefusalKeeps, ConnectionRefusalKeeps, PiecesAdded, ConnectionStartsEmpty, KeepsGood, Back, WritesPieces, CutsAsSaid}
-use Rattle.proxy.specs.declared.HalfTransfer.TheVariants.{Held}
 use Rattle.proxy.specs.declared.Transfer.{Transfer}
 use Rattle.proxy.specs.declared.PieceRead.{PieceRead}
 use Rattle.proxy.proofs.Reading.{Outcome, refuses, drops, adds, outcome, total}
@@ -70,7 +70,7 @@ connection-refusal-keeps c s n =
 module _ (s : Transfer) (room : ℕ) (p : List ℕ) where
   -- the transfer with the piece added
   abbrev going : Transfer
-  going = record { connected = true; half = Held (type_of p) (held_length s.half + length (data_of p)) }
+  going = record { connected = true; half = Some (record { kind = type_of p; length = held_length s.half + length (data_of p) }) }
 
   data-count : length (data_of p) ≡ length p - 1
   data-count = length-drop 1 p

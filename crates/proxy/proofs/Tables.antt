@@ -7,6 +7,7 @@ use mathlib.Core.List.{List}
 use mathlib.Core.Option.{some}
 use mathlib.Core.Path.{◌≡◌, refl, sym, ◌∙◌}
 use lib.Dec.{leb, ltb, eqb}
+use Rattle.std.specs.Prelude.{Option, Some, None}
 use lib.ListN.{length}
 use borrow.Author.Tests.{leb-true, leb-false, eq-eqb, ne_eqb}
 use Rattle.octets.specs.Tables.{first_of}
@@ -19,7 +20,6 @@ use Rattle.proxy.specs.Pieces.{is_size, is_type, is_cut, is_piece, last_piece, p
 use Rattle.proxy.specs.Transfers.{is_good, is_good_half, is_expected, is_like_first, held_length, top_of, type_of, set_connected, connection_told, added, joining, offered, piece_read, told}
 use Rattle.proxy.specs.Tables.{is_wrong_cut, count_rows, CountTable, WriteTable, is_bad, connection_rows, ConnectionTable, is_unexpected, is_unlike_first, length_after, piece_rows, PieceTable}
 use Rattle.proxy.specs.declared.HalfTransfer.{HalfTransfer}
-use Rattle.proxy.specs.declared.HalfTransfer.TheVariants.{Nothing, Held}
 use Rattle.proxy.specs.declared.Transfer.{Transfer}
 
 -- ---- each condition denies a test of the definitions
@@ -44,22 +44,23 @@ not_three : (a b c : Bool) → (not a || not b || not c || false) ≡ not (c && 
 not_three a b true = or-false _ ∙ or-false _ ∙ sym (not-both a b)
 not_three a b false = or-false _ ∙ or-true (not a || not b)
 
-bad-not-good : (connected : Bool) (h : HalfTransfer) → is_bad connected h ≡ not (is_good_half connected h)
-bad-not-good connected Nothing = refl
-bad-not-good false (Held t n) = or-true (eqb n 0 || ltb 1469 n || ltb 3 t)
-bad-not-good true (Held t n) = rw (none-not-some n, lt_not_le 1469 n, lt_not_le 3 t) (not_three (leb 1 n) (leb n 1469) (leb t 3))
+bad-not-good : (connected : Bool) (h : Option HalfTransfer) → is_bad connected h ≡ not (is_good_half connected h)
+bad-not-good connected None = refl
+bad-not-good false (Some h) = or-true (eqb h.length 0 || ltb 1469 h.length || ltb 3 h.kind)
+bad-not-good true (Some h) =
+    rw (none-not-some h.length, lt_not_le 1469 h.length, lt_not_le 3 h.kind) (not_three (leb 1 h.length) (leb h.length 1469) (leb h.kind 3))
 
-not-expected : (h : HalfTransfer) (top : ℕ) → is_unexpected h top ≡ not (is_expected h top)
-not-expected Nothing top = lt_not_le 1 top
-not-expected (Held t n) top = lt_not_le top 2
+not-expected : (h : Option HalfTransfer) (top : ℕ) → is_unexpected h top ≡ not (is_expected h top)
+not-expected None top = lt_not_le 1 top
+not-expected (Some h) top = lt_not_le top 2
 
-unlike-not-like : (h : HalfTransfer) (u : ℕ) → is_unlike_first h u ≡ not (is_like_first h u)
-unlike-not-like Nothing u = refl
-unlike-not-like (Held t n) u = refl
+unlike-not-like : (h : Option HalfTransfer) (u : ℕ) → is_unlike_first h u ≡ not (is_like_first h u)
+unlike-not-like None u = refl
+unlike-not-like (Some h) u = refl
 
-held_with : (h : HalfTransfer) (more : ℕ) → length_after h more ≡ held_length h + more
-held_with Nothing more = sym (zero-add more)
-held_with (Held t n) more = refl
+held_with : (h : Option HalfTransfer) (more : ℕ) → length_after h more ≡ held_length h + more
+held_with None more = sym (zero-add more)
+held_with (Some h) more = refl
 
 -- ---- the tables
 

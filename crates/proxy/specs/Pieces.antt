@@ -1,10 +1,9 @@
 -- Proxy transfer, writing: the pieces of a message. The cut is the library's one cut, with both sizes the proxy size less one.
-use Rattle.std.specs.Prelude.{ℕ, suc, ◌+◌, ◌*◌, ◌-◌, ◌≤◌, Bool, ◌&&◌, cond, List, [], ◌∷◌, map, leb, ltb, eqb, length}
+use Rattle.std.specs.Prelude.{ℕ, suc, ◌+◌, ◌*◌, ◌-◌, ◌≤◌, Bool, ◌&&◌, cond, List, [], ◌∷◌, map, leb, ltb, eqb, length, Result, Ok, Err}
 use Rattle.octets.specs.Lengths.{is_length}
 use Rattle.octets.specs.Cut.{place_of, last_of, piece, up_to}
 use Rattle.octets.specs.Told.{Told, refused, answered}
-use Rattle.proxy.specs.declared.PieceCount.{PieceCount}
-use Rattle.proxy.specs.declared.PieceCount.TheVariants.{Pieces, WrongArgument}
+use Rattle.octets.specs.declared.WrongArgument.{WrongArgument}
 
 -- "size 20 to 514 counts that octet"
 abbrev pub is_size : ℕ → Bool
@@ -47,13 +46,13 @@ abbrev pub is_cut : ℕ → ℕ → Bool
 is_cut z n = is_size z && is_length n
 
 -- the number of pieces, or refusal 11
-unfoldable pub pieces_counted : ℕ → ℕ → PieceCount
-pieces_counted z n = cond (is_cut z n) (Pieces (suc (last_piece z n))) WrongArgument
+unfoldable pub pieces_counted : ℕ → ℕ → Result ℕ WrongArgument
+pieces_counted z n = cond (is_cut z n) (Ok (suc (last_piece z n))) (Err (record {}))
 
 -- document 01's number and values of the count
-abbrev pub count_told : PieceCount → Told
-count_told (Pieces n) = answered "pieces" (n ∷ [])
-count_told WrongArgument = refused 11
+abbrev pub count_told : Result ℕ WrongArgument → Told
+count_told (Ok n) = answered "pieces" (n ∷ [])
+count_told (Err e) = refused 11
 
 -- a piece that can be written: size, length and type are right, and the index is not past the last piece
 abbrev pub is_piece : ℕ → ℕ → List ℕ → ℕ → Bool

@@ -1,5 +1,5 @@
 -- What is promised of the proxy transfer beyond each call's contract. The proofs are `proofs/Promises.antt`.
-use Rattle.std.specs.Prelude.{ℕ, ◌+◌, ◌*◌, ◌-◌, ◌≤◌, ◌<◌, Bool, true, false, ◌&&◌, List, [], ◌∷◌, ◌++◌, map, ◌≡◌, leb, length, take, drop, get_or, replicate}
+use Rattle.std.specs.Prelude.{ℕ, ◌+◌, ◌*◌, ◌-◌, ◌≤◌, ◌<◌, Bool, true, false, ◌&&◌, List, [], ◌∷◌, ◌++◌, map, ◌≡◌, leb, length, take, drop, get_or, replicate, Some, None}
 use Prim.Native.String.{String}
 use Rattle.octets.specs.Parts.{write}
 use Rattle.octets.specs.Cut.{joined}
@@ -7,12 +7,11 @@ use Rattle.octets.specs.Told.{Told, refused, answered}
 use Rattle.octets.specs.Writing.{told as writer_told, written, output_after}
 use Rattle.proxy.specs.Pieces.{is_cut, is_type, is_piece, last_piece, piece_octets, message_pieces}
 use Rattle.proxy.specs.Transfers.{is_good, set_connected, connection_told, type_of, data_of, held_length, piece_read, buffer_after, told}
-use Rattle.proxy.specs.declared.HalfTransfer.TheVariants.{Nothing, Held}
 use Rattle.proxy.specs.declared.Transfer.{Transfer}
 
 -- connected or not, with nothing half-received: in the statements' own words, and not the rule's `empty`
 abbrev pub emptied : Bool → Transfer
-emptied connected = record { connected = connected; half = Nothing }
+emptied connected = record { connected = connected; half = None }
 
 -- ---- refusals, and good states
 
@@ -42,7 +41,7 @@ pub record KeepsGood : Type 0 where
 
 pub record PieceAdded (s : Transfer) (b p : List ℕ) : Type 0 where
   pub more : told (piece_read s (length b) p).answer ≡ answered "more" []
-      → (piece_read s (length b) p).transfer ≡ record { connected = true; half = Held (type_of p) (held_length s.half + length (data_of p)) }
+      → (piece_read s (length b) p).transfer ≡ record { connected = true; half = Some (record { kind = type_of p; length = held_length s.half + length (data_of p) }) }
   pub whole : (values : List ℕ) → told (piece_read s (length b) p).answer ≡ answered "whole" values → (piece_read s (length b) p).transfer ≡ emptied true
   pub buffer : (word : String) (values : List ℕ) → told (piece_read s (length b) p).answer ≡ answered word values
       → buffer_after s b p ≡ write b (held_length s.half) (data_of p)

@@ -1,12 +1,11 @@
 -- The tables of the proxy transfer's calls, to be held beside document 01: each condition in its words, from numbers, and by none of the tests that
 -- the definitions make. The proofs are `proofs/Tables.antt`.
-use Rattle.std.specs.Prelude.{ℕ, ◌+◌, ◌-◌, ◌/◌, ◌%◌, Bool, true, false, ◌||◌, not, List, [], ◌∷◌, leb, ltb, eqb, length, get_or}
+use Rattle.std.specs.Prelude.{ℕ, ◌+◌, ◌-◌, ◌/◌, ◌%◌, Bool, true, false, ◌||◌, not, List, [], ◌∷◌, leb, ltb, eqb, length, get_or, Option, Some, None}
 use Rattle.octets.specs.Tables.{Row, refusal, reply, ByTable}
 use Rattle.octets.specs.Writing.{told as writer_told, written}
 use Rattle.proxy.specs.Pieces.{piece_octets, message_pieces, pieces_counted, count_told, is_piece}
 use Rattle.proxy.specs.Transfers.{set_connected, connection_told, piece_read, told}
 use Rattle.proxy.specs.declared.HalfTransfer.{HalfTransfer}
-use Rattle.proxy.specs.declared.HalfTransfer.TheVariants.{Nothing, Held}
 use Rattle.proxy.specs.declared.Transfer.{Transfer}
 
 -- ---- writing
@@ -41,9 +40,9 @@ WriteTable =
 -- ---- connect and disconnect
 
 -- 14: "a half transfer of 0 or over 1,469 octets, of type above 3 or while disconnected"
-abbrev pub is_bad : Bool → HalfTransfer → Bool
-is_bad connected Nothing = false
-is_bad connected (Held type count) = eqb count 0 || ltb 1469 count || ltb 3 type || not connected
+abbrev pub is_bad : Bool → Option HalfTransfer → Bool
+is_bad connected None = false
+is_bad connected (Some h) = eqb h.length 0 || ltb 1469 h.length || ltb 3 h.kind || not connected
 
 abbrev pub connection_rows : Transfer → List Row
 connection_rows s = refusal 14 (is_bad s.connected s.half) ∷ reply "done" [] true ∷ []
@@ -54,19 +53,19 @@ ConnectionTable = (connected : Bool) (s : Transfer) → ByTable (connection_told
 -- ---- a piece read
 
 -- "23 unexpected top bits": middle or last with nothing half-received, whole or first with a half-received message
-abbrev pub is_unexpected : HalfTransfer → ℕ → Bool
-is_unexpected Nothing top = ltb 1 top
-is_unexpected (Held type count) top = ltb top 2
+abbrev pub is_unexpected : Option HalfTransfer → ℕ → Bool
+is_unexpected None top = ltb 1 top
+is_unexpected (Some h) top = ltb top 2
 
 -- "24 type unlike the first piece"
-abbrev pub is_unlike_first : HalfTransfer → ℕ → Bool
-is_unlike_first Nothing type = false
-is_unlike_first (Held first count) type = not (eqb first type)
+abbrev pub is_unlike_first : Option HalfTransfer → ℕ → Bool
+is_unlike_first None type = false
+is_unlike_first (Some h) type = not (eqb h.kind type)
 
 -- the message's length so far, with more octets after what is held
-abbrev pub length_after : HalfTransfer → ℕ → ℕ
-length_after Nothing more = more
-length_after (Held type count) more = count + more
+abbrev pub length_after : Option HalfTransfer → ℕ → ℕ
+length_after None more = more
+length_after (Some h) more = h.length + more
 
 abbrev pub piece_rows : Transfer → ℕ → List ℕ → List Row
 piece_rows s room p =

@@ -1,15 +1,13 @@
 -- Proxy transfer, reading: what a piece does to the transfer and to the lent buffer.
-use Rattle.std.specs.Prelude.{ℕ, ◌+◌, ◌-◌, ◌/◌, ◌%◌, Bool, true, false, ◌&&◌, ◌||◌, cond, List, [], ◌∷◌, leb, eqb, length, drop, get_or}
+use Rattle.std.specs.Prelude.{ℕ, ◌+◌, ◌-◌, ◌/◌, ◌%◌, Bool, true, false, ◌&&◌, ◌||◌, cond, List, [], ◌∷◌, leb, eqb, length, drop, get_or, Option, Some, None, Result, Ok, Err}
 use Rattle.octets.specs.Parts.{write}
 use Rattle.octets.specs.Told.{Told, refused, answered}
 use Rattle.octets.specs.Lengths.{is_length}
 use Rattle.proxy.specs.Pieces.{is_type}
 use Rattle.proxy.specs.declared.HalfTransfer.{HalfTransfer}
-use Rattle.proxy.specs.declared.HalfTransfer.TheVariants.{Nothing, Held}
 use Rattle.proxy.specs.declared.Transfer.{Transfer}
 use Rattle.proxy.specs.declared.ConnectionSet.{ConnectionSet}
-use Rattle.proxy.specs.declared.ConnectionAnswer.{ConnectionAnswer}
-use Rattle.proxy.specs.declared.ConnectionAnswer.TheVariants as C
+use Rattle.proxy.specs.declared.BadState.{BadState}
 use Rattle.proxy.specs.declared.PieceRefusal.{PieceRefusal}
 use Rattle.proxy.specs.declared.PieceRefusal.TheVariants as R
 use Rattle.proxy.specs.declared.PieceAnswer.{PieceAnswer}
@@ -18,12 +16,12 @@ use Rattle.proxy.specs.declared.PieceRead.{PieceRead}
 
 -- connected or not, with nothing half-received
 abbrev pub empty : Bool → Transfer
-empty connected = record { connected = connected; half = Nothing }
+empty connected = record { connected = connected; half = None }
 
 -- "a half transfer of 0 or over 1,469 octets, of type above 3 or while disconnected" is bad
-abbrev pub is_good_half : Bool → HalfTransfer → Bool
-is_good_half connected Nothing = true
-is_good_half connected (Held t n) = connected && (is_type t && is_length n)
+abbrev pub is_good_half : Bool → Option HalfTransfer → Bool
+is_good_half connected None = true
+is_good_half connected (Some h) = connected && (is_type h.kind && is_length h.length)
 
 unfoldable pub is_good : Transfer → Bool
 is_good s = is_good_half s.connected s.half
@@ -31,11 +29,11 @@ is_good s = is_good_half s.connected s.half
 -- ---- connect and disconnect: 14, or "starts empty"
 
 unfoldable pub set_connected : Bool → Transfer → ConnectionSet
-set_connected connected s = cond (is_good s) (record { transfer = empty connected; answer = C.Done }) (record { transfer = s; answer = C.BadState })
+set_connected connected s = cond (is_good s) (record { transfer = empty connected; answer = Ok tt }) (record { transfer = s; answer = Err (record {}) })
 
-abbrev pub connection_told : ConnectionAnswer → Told
-connection_told C.Done = answered "done" []
-connection_told C.BadState = refused 14
+abbrev pub connection_told : Result (Unit {0}) BadState → Told
+connection_told (Ok u) = answered "done" []
+connection_told (Err e) = refused 14
 
 -- ---- a piece
 
@@ -50,40 +48,40 @@ abbrev pub data_of : List ℕ → List ℕ
 data_of p = drop 1 p
 
 -- how many octets are held
-abbrev pub held_length : HalfTransfer → ℕ
-held_length Nothing = 0
-held_length (Held t n) = n
+abbrev pub held_length : Option HalfTransfer → ℕ
+held_length None = 0
+held_length (Some h) = h.length
 
 -- whether top bits are expected: whole or first with nothing held, middle or last with something held
-abbrev pub is_expected : HalfTransfer → ℕ → Bool
-is_expected Nothing top = leb top 1
-is_expected (Held t n) top = leb 2 top
+abbrev pub is_expected : Option HalfTransfer → ℕ → Bool
+is_expected None top = leb top 1
+is_expected (Some h) top = leb 2 top
 
 -- whether a type is that of the first piece
-abbrev pub is_like_first : HalfTransfer → ℕ → Bool
-is_like_first Nothing u = true
-is_like_first (Held t n) u = eqb t u
+abbrev pub is_like_first : Option HalfTransfer → ℕ → Bool
+is_like_first None u = true
+is_like_first (Some h) u = eqb h.kind u
 
 -- a refusal that keeps the transfer
 abbrev pub refusing : Transfer → PieceRefusal → PieceRead
-refusing s r = record { transfer = s; answer = A.Refused r }
+refusing s r = record { transfer = s; answer = Err r }
 
 -- "23 to 25 disconnect and drop the half-received message."
 abbrev pub disconnecting : PieceRefusal → PieceRead
-disconnecting r = record { transfer = empty false; answer = A.Refused r }
+disconnecting r = record { transfer = empty false; answer = Err r }
 
 -- "type and length when whole"
 abbrev pub complete : ℕ → ℕ → PieceRead
-complete t n = record { transfer = empty true; answer = A.Whole t n }
+complete t n = record { transfer = empty true; answer = Ok (A.Whole t n) }
 
 -- a good piece, after which n octets are there: complete with top bits 0 and 3, else "more"
 unfoldable pub added : ℕ → ℕ → ℕ → PieceRead
 added top t n =
     cond (eqb top 0 || eqb top 3) (complete t n)
-    (record { transfer = record { connected = true; half = Held t n }; answer = A.More })
+    (record { transfer = record { connected = true; half = Some (record { kind = t; length = n }) }; answer = Ok A.More })
 
 -- 23, 24, 25, or good: a piece of `count` data octets after what is held
-unfoldable pub joining : HalfTransfer → ℕ → ℕ → ℕ → PieceRead
+unfoldable pub joining : Option HalfTransfer → ℕ → ℕ → ℕ → PieceRead
 joining h top t count =
     cond (is_expected h top)
     (cond (is_like_first h t)
@@ -107,10 +105,9 @@ piece_read s room p =
     (refusing s R.BadState))
     (refusing s R.WrongArgument)
 
-abbrev pub is_refused : PieceAnswer → Bool
-is_refused A.More = false
-is_refused (A.Whole t n) = false
-is_refused (A.Refused r) = true
+abbrev pub is_refused : Result PieceAnswer PieceRefusal → Bool
+is_refused (Ok a) = false
+is_refused (Err r) = true
 
 -- the buffer after a piece: "No refusal touches the buffer. A good piece is added after what is held, the rest unchanged"
 unfoldable pub buffer_after : Transfer → List ℕ → List ℕ → List ℕ
@@ -127,7 +124,7 @@ refusal_number R.OtherType = 24
 refusal_number R.TooLong = 25
 refusal_number R.Disconnected = 26
 
-abbrev pub told : PieceAnswer → Told
-told A.More = answered "more" []
-told (A.Whole t n) = answered "whole" (t ∷ n ∷ [])
-told (A.Refused r) = refused (refusal_number r)
+abbrev pub told : Result PieceAnswer PieceRefusal → Told
+told (Ok A.More) = answered "more" []
+told (Ok (A.Whole t n)) = answered "whole" (t ∷ n ∷ [])
+told (Err r) = refused (refusal_number r)

@@ -4,14 +4,14 @@
 ghost use Rattle.std.specs.Prelude.{◌≡◌, true, false};
 ghost use Rattle.proxy.specs.Transfers.{empty, is_good, set_connected};
 
-use proxy::{ConnectionAnswer, ConnectionSet, HalfTransfer, Transfer};
+use proxy::{BadState, ConnectionSet, Transfer};
 
 fn with_nothing(connected: bool) -> Transfer
     ensures { result ≡ empty connected }
 {
     Transfer {
-        connected: connected,
-        half: HalfTransfer::Nothing,
+        connected,
+        half: None,
     }
 }
 
@@ -23,36 +23,28 @@ pub fn new_transfer() -> Transfer
 }
 
 // Whether a transfer is not bad.
+#[tactic(auto, using(octets::proofs::Tests::tests), unfolding(proxy::specs::Transfers::is_good))]
 pub fn is_good(transfer: Transfer) -> bool
     ensures { result ≡ is_good transfer }
 {
-    let half = transfer.half;
-    match half {
-        HalfTransfer::Nothing => true,
-        HalfTransfer::Held { kind, length } => {
-            if transfer.connected {
-                if 3 < kind {
-                    return false;
-                }
-                return octets::is_length(length as usize);
-            }
-            false
-        }
-    }
+    transfer.half.is_none_or(|half| {
+        transfer.connected && half.kind <= 3 && octets::is_length(half.length as usize)
+    })
 }
 
+#[tactic(auto, unfolding(proxy::specs::Transfers::set_connected))]
 fn set_connected(connected: bool, transfer: Transfer) -> ConnectionSet
     ensures { result ≡ set_connected connected transfer }
 {
     if is_good(transfer) {
         return ConnectionSet {
             transfer: with_nothing(connected),
-            answer: ConnectionAnswer::Done,
+            answer: Ok(()),
         };
     }
     ConnectionSet {
-        transfer: transfer,
-        answer: ConnectionAnswer::BadState,
+        transfer,
+        answer: Err(BadState),
     }
 }
 

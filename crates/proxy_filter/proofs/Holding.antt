@@ -10,19 +10,18 @@ use lib.Seq.{take-append-le, drop-append-le, take_at, drop_at, set_at, length-ta
 use borrow.Author.Tests.{le-leb, lt-leb, leb-true, eqb-true}
 use Rattle.octets.proofs.Tests.{both_hold}
 use Rattle.filter_messages.specs.declared.FilterType.{FilterType}
-use Rattle.filter_entries.specs.Entries.{entry, unused, all_allowed, all_unused}
+use Rattle.filter_entries.specs.Entries.{unused, all_allowed, all_unused}
 use Rattle.filter_entries.specs.Changes.{appended, without}
-use Rattle.filter_entries.specs.declared.Entry.{Entry}
 use Rattle.filter_entries.proofs.Lists.{Fine}
 use Rattle.proxy_filter.specs.Filters.{held, holding, is_good}
 use Rattle.proxy_filter.specs.declared.Filter.{Filter}
 
 -- a list of places that are not in use
-unused-replicate : (l : List Entry) → all_unused l ≡ true → l ≡ replicate (length l) unused
+unused-replicate : (l : List ℕ) → all_unused l ≡ true → l ≡ replicate (length l) unused
 unused-replicate [] h = refl
 unused-replicate (e ∷ l) h =
     let b = both_hold h in
-    λ i. entry (eqb-true e.address 0 b.0 i) ∷ unused-replicate l b.1 i
+    λ i. eqb-true e 0 b.0 i ∷ unused-replicate l b.1 i
 
 replicate-unused : (n : ℕ) → all_unused (replicate n unused) ≡ true
 replicate-unused zero = refl
@@ -30,23 +29,23 @@ replicate-unused (suc n) = replicate-unused n
 
 -- ---- the filter that holds a list
 
-pub held-holding : (kind : FilterType) (l : List Entry) → held (holding kind l) ≡ l
+pub held-holding : (kind : FilterType) (l : List ℕ) → held (holding kind l) ≡ l
 unfolding holding
 held-holding kind l = take_at l _ (length l) refl
 
-pub kind-holding : (kind : FilterType) (l : List Entry) → (holding kind l).kind ≡ kind
+pub kind-holding : (kind : FilterType) (l : List ℕ) → (holding kind l).kind ≡ kind
 unfolding holding
 kind-holding kind l = refl
 
-pub count-holding : (kind : FilterType) (l : List Entry) → (holding kind l).count ≡ length l
+pub count-holding : (kind : FilterType) (l : List ℕ) → (holding kind l).count ≡ length l
 unfolding holding
 count-holding kind l = refl
 
-pub long-holding : (kind : FilterType) (l : List Entry) → length l ≤ 16 → length (holding kind l).entries ≡ 16
+pub long-holding : (kind : FilterType) (l : List ℕ) → length l ≤ 16 → length (holding kind l).entries ≡ 16
 unfolding holding
 long-holding kind l h = omega (arith, length-append l (replicate (16 - length l) unused), length-replicate (16 - length l) unused)
 
-pub good-holding : (kind : FilterType) (l : List Entry) → length l ≤ 16 → all_allowed l ≡ true → is_good (holding kind l) ≡ true
+pub good-holding : (kind : FilterType) (l : List ℕ) → length l ≤ 16 → all_allowed l ≡ true → is_good (holding kind l) ≡ true
 unfolding is_good holding
 good-holding kind l n h =
     let z = replicate (16 - length l) unused in
@@ -55,7 +54,7 @@ good-holding kind l n h =
 -- ---- a filter that isn't bad
 
 -- its places past the count
-abbrev past : Filter → List Entry
+abbrev past : Filter → List ℕ
 past f = drop f.count f.entries
 
 good-parts : (f : Filter) → is_good f ≡ true → (leb f.count 16 ≡ true) × ((all_allowed (held f) ≡ true) × (all_unused (past f) ≡ true))
@@ -80,7 +79,7 @@ module _ (f : Filter) (long : length f.entries ≡ 16) (good : is_good f ≡ tru
   past_is = let n : length (past f) ≡ 16 - f.count = omega (arith, length-drop f.count f.entries) in unused-replicate (past f) (good-parts f good).1.1 ∙ rw n
 
   entries-are : f.entries ≡ held f ++ replicate (16 - f.count) unused
-  entries-are = sym (take-append-drop f.count f.entries) ∙ ap (λ (l : List Entry). held f ++ l) past_is
+  entries-are = sym (take-append-drop f.count f.entries) ∙ ap (λ (l : List ℕ). held f ++ l) past_is
 
   pub rebuilt : f ≡ holding f.kind (held f)
   unfolding holding
@@ -91,13 +90,13 @@ module _ (f : Filter) (long : length f.entries ≡ 16) (good : is_good f ≡ tru
 
   -- one address more
   added-after : (a : ℕ) → f.count < 16
-      → ◌≡◌ {A = Filter} (record { kind = f.kind; count = f.count + 1; entries = set f.entries f.count (entry a) })
-      (holding f.kind (held f ++ (entry a ∷ [])))
+      → ◌≡◌ {A = Filter} (record { kind = f.kind; count = f.count + 1; entries = set f.entries f.count a })
+      (holding f.kind (held f ++ (a ∷ [])))
   unfolding holding
   added-after a h = λ i. record { kind = f.kind; count = sym n i; entries = filled i }
     where
-      n : length (held f ++ (entry a ∷ [])) ≡ f.count + 1
-      n = omega (arith, length-append (held f) (entry a ∷ []), held-length)
+      n : length (held f ++ (a ∷ [])) ≡ f.count + 1
+      n = omega (arith, length-append (held f) (a ∷ []), held-length)
 
       room : 16 - f.count ≡ suc (16 - (f.count + 1))
       room = omega arith
@@ -105,17 +104,17 @@ module _ (f : Filter) (long : length f.entries ≡ 16) (good : is_good f ≡ tru
       first : f.entries ≡ held f ++ unused ∷ replicate (16 - (f.count + 1)) unused
       first = entries-are ∙ rw room
 
-      filled : set f.entries f.count (entry a) ≡ (held f ++ (entry a ∷ [])) ++ replicate (16 - length (held f ++ (entry a ∷ []))) unused
+      filled : set f.entries f.count a ≡ (held f ++ (a ∷ [])) ++ replicate (16 - length (held f ++ (a ∷ []))) unused
       filled =
-          ap (λ (l : List Entry). set l f.count (entry a)) first
-          ∙ set_at (held f) unused (replicate (16 - (f.count + 1)) unused) (entry a) f.count held-length
-          ∙ sym (append_snoc (held f) (entry a) (replicate (16 - (f.count + 1)) unused)) ∙ rw n
+          ap (λ (l : List ℕ). set l f.count a) first
+          ∙ set_at (held f) unused (replicate (16 - (f.count + 1)) unused) a f.count held-length
+          ∙ sym (append_snoc (held f) a (replicate (16 - (f.count + 1)) unused)) ∙ rw n
 
   pub no_room : (a : ℕ) → 16 ≤ f.count → f ≡ holding f.kind (appended (held f) a)
   no_room a h = rw (le-leb 16 (length (held f)) (omega (arith, held-length))) rebuilt
 
   pub room : (a : ℕ) → f.count < 16
-      → ◌≡◌ {A = Filter} (record { kind = f.kind; count = f.count + 1; entries = set f.entries f.count (entry a) })
+      → ◌≡◌ {A = Filter} (record { kind = f.kind; count = f.count + 1; entries = set f.entries f.count a })
       (holding f.kind (appended (held f) a))
   room a h = rw (lt-leb 16 (length (held f)) (omega (arith, held-length))) (added-after a h)
 
@@ -126,7 +125,7 @@ module _ (f : Filter) (long : length f.entries ≡ 16) (good : is_good f ≡ tru
   unfolding holding
   taken_out at h = λ i. record { kind = f.kind; count = sym n i; entries = (closed ∙ ap (λ (m : ℕ). without (held f) at ++ replicate m unused) left) i }
     where
-      z : List Entry
+      z : List ℕ
       z = replicate (16 - f.count) unused
 
       last : z ++ (unused ∷ []) ≡ replicate (16 - f.count + 1) unused
@@ -134,9 +133,9 @@ module _ (f : Filter) (long : length f.entries ≡ 16) (good : is_good f ≡ tru
 
       closed : take at f.entries ++ drop (suc at) f.entries ++ (unused ∷ []) ≡ without (held f) at ++ replicate (16 - f.count + 1) unused
       closed =
-          ap (λ (l : List Entry). take at l ++ drop (suc at) l ++ (unused ∷ [])) entries-are
+          ap (λ (l : List ℕ). take at l ++ drop (suc at) l ++ (unused ∷ [])) entries-are
           ∙ rw (take-append-le at (held f) z (omega (arith, held-length)), drop-append-le (suc at) (held f) z (omega (arith, held-length)))
-          (simp append_assoc (ap (λ (l : List Entry). take at (held f) ++ (drop (suc at) (held f) ++ l)) last))
+          (simp append_assoc (ap (λ (l : List ℕ). take at (held f) ++ (drop (suc at) (held f) ++ l)) last))
 
       n : length (without (held f) at) ≡ f.count - 1
       n =

@@ -9,6 +9,7 @@ use mathlib.Core.Path.{◌≡◌, refl, sym, ap, ◌∙◌}
 use lib.Dec.{leb, eqb}
 use lib.ListN.{length, drop}
 use borrow.Author.Tests.{le-leb, ne_eqb, leb-true}
+use Rattle.std.specs.Prelude.{Result, Ok, Err}
 use Rattle.octets.specs.Told.{answered}
 use Rattle.octets.proofs.Tests.{cases}
 use Rattle.filter_messages.specs.Messages.{type_of, change_of, request_of}
@@ -22,7 +23,6 @@ use Rattle.filter_messages.specs.declared.FilterRefusal.{FilterRefusal}
 use Rattle.filter_messages.specs.declared.FilterRefusal.TheVariants as R
 use Rattle.filter_entries.specs.Entries.{is_on}
 use Rattle.filter_entries.specs.Changes.{changed, changed_all}
-use Rattle.filter_entries.specs.declared.Entry.{Entry}
 use Rattle.filter_entries.proofs.Lists.{Fine, fine-changed, fine-all, on-after, off-after, others-left}
 use Rattle.filter_entries.proofs.Promises.{all-added, all-removed}
 use Rattle.proxy_filter.specs.Filters.{held, holding, is_good}
@@ -51,16 +51,16 @@ safe-refusing f r = record {
   keeps-good = λ h. h;
 }
 
-safe-reporting : (f : Filter) (kind : FilterType) (l : List Entry) → Fine l → Safe f (reporting (holding kind l))
+safe-reporting : (f : Filter) (kind : FilterType) (l : List ℕ) → Fine l → Safe f (reporting (holding kind l))
 safe-reporting f kind l h = record {
   refusal-keeps = λ n e. let z : ◌≡◌ {A = ℕ} 0 1 = cc in absurd (omega arith);
   keeps-good = λ g. good-holding kind l h.few h.allowed;
 }
 
-safe-performed : (f : Filter) (m : List ℕ) (q : Request) → is_good f ≡ true → Safe f (performed f m q)
-safe-performed f m (Q.SetType kind) g = safe-reporting f kind [] (record { few = omega arith; allowed = refl })
-safe-performed f m (Q.Change c) g = safe-reporting f f.kind _ (fine-all c (held f) (addresses (drop 1 m)) (fine-held f g))
-safe-performed f m (Q.Refused r) g = safe-refusing f r
+safe-performed : (f : Filter) (m : List ℕ) (q : Result Request FilterRefusal) → is_good f ≡ true → Safe f (performed f m q)
+safe-performed f m (Ok (Q.SetType kind)) g = safe-reporting f kind [] (record { few = omega arith; allowed = refl })
+safe-performed f m (Ok (Q.Change c)) g = safe-reporting f f.kind _ (fine-all c (held f) (addresses (drop 1 m)) (fine-held f g))
+safe-performed f m (Err r) g = safe-refusing f r
 
 pub all-safe : AllSafe
 unfolding controlled learned
@@ -85,7 +85,7 @@ octets-length : (l : List ℕ) → length (octets_of l) ≡ 2 * length l
 octets-length [] = refl
 octets-length (a ∷ l) = omega (arith, octets-length l)
 
-changes : (c : Change) (o : ℕ) (l : List ℕ) → length l ≤ 16 → change_of c (o ∷ octets_of l) ≡ Q.Change c
+changes : (c : Change) (o : ℕ) (l : List ℕ) → length l ≤ 16 → change_of c (o ∷ octets_of l) ≡ Ok (Q.Change c)
 unfolding change_of
 changes c o l h =
     let n : suc (length (octets_of l)) - 1 ≡ 2 * length l = omega (arith, octets-length l) in
@@ -95,16 +95,16 @@ changes c o l h =
 not-empty : (o : ℕ) (l : List ℕ) → eqb (length (o ∷ octets_of l)) 0 ≡ false
 not-empty o l = ne_eqb (length (o ∷ octets_of l)) 0 (λ e. absurd (omega arith))
 
-asks-to-add : (l : List ℕ) → length l ≤ 16 → request_of (0x01 ∷ octets_of l) ≡ Q.Change Add
+asks-to-add : (l : List ℕ) → length l ≤ 16 → request_of (0x01 ∷ octets_of l) ≡ Ok (Q.Change Add)
 unfolding request_of
 asks-to-add l h = rw (not-empty 0x01 l) (changes Add 0x01 l h)
 
-asks-to-remove : (l : List ℕ) → length l ≤ 16 → request_of (0x02 ∷ octets_of l) ≡ Q.Change Remove
+asks-to-remove : (l : List ℕ) → length l ≤ 16 → request_of (0x02 ∷ octets_of l) ≡ Ok (Q.Change Remove)
 unfolding request_of
 asks-to-remove l h = rw (not-empty 0x02 l) (changes Remove 0x02 l h)
 
 -- a message that asks for a change, with its addresses
-module _ (c : Change) (opcode : ℕ) (asks : (l : List ℕ) → length l ≤ 16 → request_of (opcode ∷ octets_of l) ≡ Q.Change c) where
+module _ (c : Change) (opcode : ℕ) (asks : (l : List ℕ) → length l ≤ 16 → request_of (opcode ∷ octets_of l) ≡ Ok (Q.Change c)) where
   answers : (f : Filter) (l : List ℕ) → is_good f ≡ true → length l ≤ 16 → controlled f (opcode ∷ octets_of l) ≡ reporting (holding f.kind (changed_all c (held f) l))
   unfolding controlled
   answers f l g h = rw (g, asks l h, octets-addresses l)
@@ -167,7 +167,7 @@ all-learn-as f s g u = record {
   reject = λ k. learns Remove 0x02 asks-to-remove (ap change_for k);
 }
   where
-    learns : (c : Change) (opcode : ℕ) (asks : (l : List ℕ) → length l ≤ 16 → request_of (opcode ∷ octets_of l) ≡ Q.Change c) → change_for f.kind ≡ c
+    learns : (c : Change) (opcode : ℕ) (asks : (l : List ℕ) → length l ≤ 16 → request_of (opcode ∷ octets_of l) ≡ Ok (Q.Change c)) → change_for f.kind ≡ c
         → (learned f s).filter ≡ after_message opcode f (s ∷ [])
     learns c opcode asks k =
         ap (λ (r : FilterStep). r.filter) (learned-as f s g u)
@@ -183,7 +183,7 @@ passes : (f : Filter) (d : ℕ) → is_good f ≡ true → d ≢ 0 → list_pass
 passes f d g z h = ((pass-table f d).exactly (bad_row f ∷ []) _ _ refl).1 (rw (ne_eqb d 0 z, h), rw g)
 
 -- a source that is on the list after it was added
-on-added : (l : List Entry) (s : ℕ) → s ≢ 0 → length l < 16 → is_on (changed Add l s) s ≡ true
+on-added : (l : List ℕ) (s : ℕ) → s ≢ 0 → length l < 16 → is_on (changed Add l s) s ≡ true
 on-added l s z h =
     cases (is_on l s)
     (λ n. rw ((all-added l s).there n) n)

@@ -6,6 +6,8 @@ use mathlib.Core.Option.{some, none}
 use mathlib.Core.Path.{◌≡◌, refl, ap, ◌∙◌}
 use lib.Dec.{leb, ltb, eqb}
 use lib.ListN.{drop}
+use Rattle.std.specs.Prelude.{Option, Some, None, is_some, Result, Ok}
+use Rattle.filter_messages.specs.declared.FilterRefusal.{FilterRefusal}
 use Rattle.octets.specs.Told.{refused, answered}
 use Rattle.octets.specs.Tables.{first_of}
 use Rattle.octets.proofs.Tables.{by-table, first-behind, first-before}
@@ -18,10 +20,7 @@ use Rattle.filter_messages.specs.declared.Request.{Request}
 use Rattle.filter_messages.proofs.Tables.{Asks, refuses, sets, changes, asks}
 use Rattle.filter_entries.specs.Entries.{find}
 use Rattle.filter_entries.specs.Changes.{changed_all}
-use Rattle.filter_entries.specs.declared.Entry.{Entry}
-use Rattle.filter_entries.specs.declared.Place.{Place}
-use Rattle.filter_entries.specs.declared.Place.TheVariants.{At, Nowhere}
-use Rattle.filter_entries.proofs.Lookup.{is_there, on-found}
+use Rattle.filter_entries.proofs.Lookup.{on-found}
 use Rattle.filter_entries.proofs.Bad.{bad-entries}
 use Rattle.proxy_filter.specs.Filters.{held, holding, is_good}
 use Rattle.proxy_filter.specs.Calls.{addresses, reporting, performed, controlled, is_unicast, learned, pass_answer, passing, pass_told}
@@ -33,16 +32,16 @@ pub bad-filters : BadFilters
 unfolding is_good
 bad-filters f = bad-entries f.count f.entries
 
-status-told : (kind : FilterType) (l : List Entry) → (status_row (holding kind l)).answer ≡ told (reporting (holding kind l)).answer
+status-told : (kind : FilterType) (l : List ℕ) → (status_row (holding kind l)).answer ≡ told (reporting (holding kind l)).answer
 status-told kind l = rw (held-holding kind l, count-holding kind l)
 
 -- ---- a message
 
-status-behind : (m : List ℕ) (kind : FilterType) (l : List Entry) → first_of (message_refusals m) ≡ none
+status-behind : (m : List ℕ) (kind : FilterType) (l : List ℕ) → first_of (message_refusals m) ≡ none
     → first_of (message_refusals m ++ (status_row (holding kind l) ∷ [])) ≡ some (told (reporting (holding kind l)).answer)
 status-behind m kind l e = first-behind (message_refusals m) (status_row (holding kind l) ∷ []) e ∙ ap some (status-told kind l)
 
-first-row : (f : Filter) (m : List ℕ) (q : Request) → Asks m q
+first-row : (f : Filter) (m : List ℕ) (q : Result Request FilterRefusal) → Asks m q
     → first_of (message_refusals m ++ (status_row (performed f m q).filter ∷ [])) ≡ some (told (performed f m q).answer)
 first-row f m q (refuses r e) = first-before (message_refusals m) (status_row f ∷ []) (refused (refusal_number r)) e
 first-row f m q (sets kind e o t) = status-behind m kind [] e
@@ -70,12 +69,12 @@ learn-table f s =
 
 -- ---- the pass decision
 
-passes-first : (kind : FilterType) (p : Place)
-    → cond (list_passes kind (is_there p)) (some (answered "passes" [])) (some (answered "does not pass" [])) ≡ some (pass_told (pass_answer kind p))
-passes-first AcceptList (At p) = refl
-passes-first AcceptList Nowhere = refl
-passes-first RejectList (At p) = refl
-passes-first RejectList Nowhere = refl
+passes-first : (kind : FilterType) (p : Option ℕ)
+    → cond (list_passes kind (is_some p)) (some (answered "passes" [])) (some (answered "does not pass" [])) ≡ some (pass_told (Ok (pass_answer kind p)))
+passes-first AcceptList (Some p) = refl
+passes-first AcceptList None = refl
+passes-first RejectList (Some p) = refl
+passes-first RejectList None = refl
 
 pub pass-table : PassTable
 unfolding passing

@@ -8,7 +8,6 @@ use Rattle.filter_messages.specs.declared.FilterType.TheVariants.{AcceptList, Re
 use Rattle.filter_entries.specs.Entries.{unused, is_on}
 use Rattle.filter_entries.specs.Changes.{all_but}
 use Rattle.filter_entries.specs.Promises.{Added, Removed}
-use Rattle.filter_entries.specs.declared.Entry.{Entry}
 use Rattle.proxy_filter.specs.Filters.{held, is_good}
 use Rattle.proxy_filter.specs.Calls.{new, controlled, is_unicast, learned, passing, pass_told}
 use Rattle.proxy_filter.specs.declared.Filter.{Filter}
@@ -71,7 +70,7 @@ TypesSet = (f : Filter) → is_good f ≡ true → TypeSet f
 -- ---- one address added: the skips and the place are those of `Added`
 
 -- the list held after the message that adds an address
-abbrev pub after_adding : Filter → ℕ → List Entry
+abbrev pub after_adding : Filter → ℕ → List ℕ
 after_adding f a = held (after_message 0x01 f (a ∷ []))
 
 pub record Addition (f : Filter) (a : ℕ) : Type 0 where
@@ -85,7 +84,7 @@ Additions = (f : Filter) (a : ℕ) → is_good f ≡ true → Addition f a
 -- ---- one address removed: the skips and the place are those of `Removed`
 
 -- the list held after the message that removes an address
-abbrev pub after_removing : Filter → ℕ → List Entry
+abbrev pub after_removing : Filter → ℕ → List ℕ
 after_removing f a = held (after_message 0x02 f (a ∷ []))
 
 pub record Removal (f : Filter) (a : ℕ) : Type 0 where

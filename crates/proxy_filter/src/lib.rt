@@ -7,45 +7,35 @@ ghost use Rattle.filter_entries.specs.Changes.{appended, without, changed, chang
 ghost use Rattle.proxy_filter.specs.Filters.{held, holding, is_good};
 ghost use Rattle.proxy_filter.specs.Calls.{new, addresses, change_for, is_unicast, reporting, refusing, controlled, learned, passing, pass_answer};
 
-use filter_entries::{Entry, Place, find_from};
-use filter_messages::{Change, FilterAnswer, FilterRefusal, FilterType, Request, request_of};
+use filter_entries::find_from;
+use filter_messages::{Change, FilterRefusal, FilterType, Request, Status, request_of};
 use octets::read16;
 
-// The addresses are the first count entries, in order of adding.
+// The addresses are the first count entries, in order of adding; the others are 0x0000.
+// Stays a count beside an array: a count over 16 and a used place past it are states that refusal 14 tells.
 #[derive(Clone, Copy)]
 pub struct Filter {
     pub kind: FilterType,
     pub count: u8,
-    pub entries: [Entry; 16],
+    pub entries: [u16; 16],
 }
 
 // The filter after a call, and the call's answer.
+// A record of its own, as each call's: one generic record of a state and an answer would call it by one name with all others, and be no plainer.
 #[derive(Clone, Copy)]
 pub struct FilterStep {
     pub filter: Filter,
-    pub answer: FilterAnswer,
-}
-
-#[derive(Clone, Copy)]
-pub enum PassAnswer {
-    Passes,
-    DoesNotPass,
-    BadState,
+    pub answer: Result<Status, FilterRefusal>,
 }
 
 // The entries with the one at a place taken out, those after it moved down by one, and the last place not in use.
-fn close_place(entries: [Entry; 16], at: usize) -> [Entry; 16]
+fn close_place(mut entries: [u16; 16], at: usize) -> [u16; 16]
     requires { at < 16 }
     ensures { result ≡ take at entries ++ drop (suc at) entries ++ (unused ∷ []) }
 {
-    let mut closed = entries;
-    let mut i = at;
-    while i < 15 {
-        closed[i] = entries[i + 1];
-        i += 1;
-    }
-    closed[15] = Entry { address: 0 };
-    closed
+    entries.copy_within(at + 1.., at);
+    entries[15] = 0;
+    entries
 }
 
 // What is done with a source address.
@@ -62,26 +52,16 @@ fn change_for(kind: FilterType) -> Change
 fn is_unicast(address: u16) -> bool
     ensures { result ≡ is_unicast address }
 {
-    if 0x0001 <= address {
-        address <= 0x7FFF
-    } else {
-        false
-    }
+    (0x0001..=0x7FFF).contains(&address)
 }
 
 // The pass decision, by the place at which the destination was found.
-fn pass_answer(kind: FilterType, place: Place) -> PassAnswer
+fn pass_answer(kind: FilterType, place: Option<usize>) -> bool
     ensures { result ≡ pass_answer kind place }
 {
     match kind {
-        FilterType::AcceptList => match place {
-            Place::At(_) => return PassAnswer::Passes,
-            Place::Nowhere => return PassAnswer::DoesNotPass,
-        },
-        FilterType::RejectList => match place {
-            Place::At(_) => return PassAnswer::DoesNotPass,
-            Place::Nowhere => return PassAnswer::Passes,
-        },
+        FilterType::AcceptList => place.is_some(),
+        FilterType::RejectList => place.is_none(),
     }
 }
 
@@ -91,9 +71,9 @@ impl Filter {
         ensures { result ≡ holding kind [] }
     {
         Filter {
-            kind: kind,
+            kind,
             count: 0,
-            entries: [Entry { address: 0 }; 16],
+            entries: [0; 16],
         }
     }
 
@@ -104,20 +84,22 @@ impl Filter {
         Filter::empty(FilterType::AcceptList)
     }
 
-    // The lookup: the place of an address among those held.
-    fn find(self, address: u16) -> Place
-        ensures { result ≡ find (held self) address }
-    {
-        let entries = self.entries;
-        find_from(entries, self.count as usize, 0, address)
-    }
-
     // Whether the filter isn't bad.
     fn is_good(self) -> bool
         ensures { result ≡ is_good self }
     {
-        let entries = self.entries;
-        filter_entries::is_good(entries, self.count as usize)
+        filter_entries::is_good(self.entries, self.count as usize)
+    }
+
+    // That the filter is good stays a `requires` from here on: a `Filter` has to be able to be bad, so an invariant would want a second type round it,
+    // and each call of these five would wrap and unwrap it.
+
+    // The lookup: the place of an address among those held.
+    fn find(self, address: u16) -> Option<usize>
+        requires { is_good self ≡ true }
+        ensures { result ≡ find (held self) address }
+    {
+        find_from(&self.entries[..self.count as usize], 0, address)
     }
 
     // An address is put after the others, if there is room.
@@ -129,8 +111,8 @@ impl Filter {
         if 16 <= count {
             return self;
         }
-        self.entries[count] = Entry { address: address };
-        self.count = self.count + 1;
+        self.entries[count] = address;
+        self.count += 1;
         self
     }
 
@@ -139,10 +121,8 @@ impl Filter {
         requires { (is_good self ≡ true) × (at < self.count) }
         ensures { result ≡ holding self.kind (without (held self) at) }
     {
-        let entries = self.entries;
-        let closed = close_place(entries, at);
-        self.entries = closed;
-        self.count = self.count - 1;
+        self.entries = close_place(self.entries, at);
+        self.count -= 1;
         self
     }
 
@@ -154,29 +134,20 @@ impl Filter {
         if address == 0 {
             return self;
         }
-        let place = self.find(address);
-        match change {
-            Change::Add => match place {
-                Place::At(_) => return self,
-                Place::Nowhere => return self.append(address),
-            },
-            Change::Remove => match place {
-                Place::At(at) => return self.remove_at(at),
-                Place::Nowhere => return self,
-            },
+        match (change, self.find(address)) {
+            (Change::Add, None) => self.append(address),
+            (Change::Remove, Some(at)) => self.remove_at(at),
+            (Change::Add, Some(_)) | (Change::Remove, None) => self,
         }
     }
 
-    // Each address of a message in turn.
-    fn change_all(mut self, change: Change, message: &[u8]) -> Self
+    // Each address in turn, of two octets each.
+    fn change_all(mut self, change: Change, octets: &[u8]) -> Self
         requires { is_good self ≡ true }
-        ensures { result ≡ holding self.kind (changed_all change (held self) (addresses (drop 1 message.now))) }
+        ensures { result ≡ holding self.kind (changed_all change (held self) (addresses octets.now)) }
     {
-        let mut at = 1;
-        while at + 1 < message.len() {
-            let address = read16(message, at);
-            self = self.change_one(change, address);
-            at += 2;
+        for address in octets.chunks_exact(2) {
+            self = self.change_one(change, read16(address, 0));
         }
         self
     }
@@ -185,13 +156,12 @@ impl Filter {
     fn report(self) -> FilterStep
         ensures { result ≡ reporting self }
     {
-        let kind = self.kind;
         FilterStep {
             filter: self,
-            answer: FilterAnswer::Status {
-                kind: kind,
+            answer: Ok(Status {
+                kind: self.kind,
                 count: self.count,
-            },
+            }),
         }
     }
 
@@ -201,60 +171,47 @@ impl Filter {
     {
         FilterStep {
             filter: self,
-            answer: FilterAnswer::Refused(refusal),
+            answer: Err(refusal),
         }
     }
 
     // A filter message of any octets.
-    pub fn control(mut self, message: &[u8]) -> FilterStep
+    pub fn control(self, message: &[u8]) -> FilterStep
         ensures { result ≡ controlled self message.now }
     {
-        if self.is_good() {
-            let request = request_of(message);
-            match request {
-                Request::SetType(kind) => {
-                    self = Filter::empty(kind);
-                    return self.report();
-                }
-                Request::Change(change) => {
-                    self = self.change_all(change, message);
-                    return self.report();
-                }
-                Request::Refused(refusal) => {
-                    return self.refuse(refusal);
-                }
-            }
+        if !self.is_good() {
+            return self.refuse(FilterRefusal::BadState);
         }
-        self.refuse(FilterRefusal::BadState)
+        match request_of(message) {
+            Ok(Request::SetType(kind)) => Filter::empty(kind).report(),
+            Ok(Request::Change(change)) => self.change_all(change, &message[1..]).report(),
+            Err(refusal) => self.refuse(refusal),
+        }
     }
 
     // The source address of a network message heard from the proxy client.
-    pub fn learn(mut self, source: u16) -> FilterStep
+    pub fn learn(self, source: u16) -> FilterStep
         ensures { result ≡ learned self source }
     {
-        if self.is_good() {
-            if is_unicast(source) {
-                let kind = self.kind;
-                self = self.change_one(change_for(kind), source);
-                return self.report();
-            }
+        if !self.is_good() {
+            return self.refuse(FilterRefusal::BadState);
+        }
+        if !is_unicast(source) {
             return self.refuse(FilterRefusal::NotUnicast);
         }
-        self.refuse(FilterRefusal::BadState)
+        self.change_one(change_for(self.kind), source).report()
     }
 
     // Whether a network message with a destination address is passed on to the proxy client.
-    pub fn pass(self, destination: u16) -> PassAnswer
+    pub fn pass(self, destination: u16) -> Result<bool, FilterRefusal>
         ensures { result ≡ passing self destination }
     {
-        if self.is_good() {
-            if destination == 0 {
-                return PassAnswer::DoesNotPass;
-            }
-            let kind = self.kind;
-            let place = self.find(destination);
-            return pass_answer(kind, place);
+        if !self.is_good() {
+            return Err(FilterRefusal::BadState);
         }
-        PassAnswer::BadState
+        if destination == 0 {
+            return Ok(false);
+        }
+        Ok(pass_answer(self.kind, self.find(destination)))
     }
 }

@@ -1,47 +1,62 @@
 // Proxy transfer, reading: pieces put together again in a lent buffer.
 #![tactic(auto)]
 
-ghost use Rattle.std.specs.Prelude.{◌≡◌, ◌≤◌, length};
-ghost use Rattle.proxy.specs.Transfers.{held_length, is_expected, is_like_first, refusing, disconnecting, complete, added, joining, offered, piece_read, is_refused, buffer_after};
+ghost use Rattle.std.specs.Prelude.{◌≡◌, ◌≤◌, ◌/◌, length};
+ghost use Rattle.proxy.specs.Transfers.{held_length, is_expected, is_like_first, refusing, disconnecting, complete, added, joining, offered, piece_read, buffer_after};
+ghost use Rattle.proxy_reading.specs.Places.{top_bits};
 
 use octets::{LONGEST_MESSAGE, octet_at};
 use proxy::{HalfTransfer, PieceAnswer, PieceRead, PieceRefusal, Transfer};
 use proxy_connection::{is_good, new_transfer};
 
+// Where a piece stands in its message: the top two bits of its first octet.
+#[derive(Clone, Copy)]
+enum Place {
+    Whole,
+    First,
+    Middle,
+    Last,
+}
+
+fn place_of(first: u8) -> Place
+    ensures { top_bits result ≡ first / 64 }
+{
+    match first / 64 {
+        0 => Place::Whole,
+        1 => Place::First,
+        2 => Place::Middle,
+        _ => Place::Last,
+    }
+}
+
 fn refuse(transfer: Transfer, refusal: PieceRefusal) -> PieceRead
     ensures { result ≡ refusing transfer refusal }
 {
     PieceRead {
-        transfer: transfer,
-        answer: PieceAnswer::Refused(refusal),
+        transfer,
+        answer: Err(refusal),
     }
 }
 
-fn held_length(half: HalfTransfer) -> usize
+fn held_length(half: Option<HalfTransfer>) -> usize
     ensures { (result ≡ held_length half) × (result ≤ 65535) }
 {
-    match half {
-        HalfTransfer::Nothing => 0,
-        HalfTransfer::Held { kind, length } => length as usize,
+    half.map_or(0, |half| half.length as usize)
+}
+
+fn is_expected(half: Option<HalfTransfer>, place: Place) -> bool
+    ensures { result ≡ is_expected half (top_bits place) }
+{
+    match place {
+        Place::Whole | Place::First => half.is_none(),
+        Place::Middle | Place::Last => half.is_some(),
     }
 }
 
-fn is_expected(half: HalfTransfer, top: u8) -> bool
-    ensures { result ≡ is_expected half top }
+fn is_like_first(half: Option<HalfTransfer>, kind: u8) -> bool
+    ensures { result ≡ is_like_first half kind }
 {
-    match half {
-        HalfTransfer::Nothing => top <= 1,
-        HalfTransfer::Held { kind, length } => 2 <= top,
-    }
-}
-
-fn is_like_first(half: HalfTransfer, other: u8) -> bool
-    ensures { result ≡ is_like_first half other }
-{
-    match half {
-        HalfTransfer::Nothing => true,
-        HalfTransfer::Held { kind, length } => kind == other,
-    }
+    half.is_none_or(|half| half.kind == kind)
 }
 
 fn disconnect_refused(refusal: PieceRefusal) -> PieceRead
@@ -56,56 +71,47 @@ fn finish(kind: u8, length: u16) -> PieceRead
     PieceRead {
         transfer: Transfer {
             connected: true,
-            half: HalfTransfer::Nothing,
+            half: None,
         },
-        answer: PieceAnswer::Whole {
-            kind: kind,
-            length: length,
-        },
+        answer: Ok(PieceAnswer::Whole { kind, length }),
     }
 }
 
-fn add(top: u8, kind: u8, length: u16) -> PieceRead
-    ensures { result ≡ added top kind length }
+#[tactic(auto, using(octets::proofs::Tests::tests), unfolding(proxy::specs::Transfers::added))]
+fn add(place: Place, kind: u8, length: u16) -> PieceRead
+    ensures { result ≡ added (top_bits place) kind length }
 {
-    if top == 0 {
-        return finish(kind, length);
-    }
-    if top == 3 {
-        return finish(kind, length);
-    }
-    PieceRead {
-        transfer: Transfer {
-            connected: true,
-            half: HalfTransfer::Held {
-                kind: kind,
-                length: length,
+    match place {
+        Place::Whole | Place::Last => finish(kind, length),
+        Place::First | Place::Middle => PieceRead {
+            transfer: Transfer {
+                connected: true,
+                half: Some(HalfTransfer { kind, length }),
             },
+            answer: Ok(PieceAnswer::More),
         },
-        answer: PieceAnswer::More,
     }
 }
 
 // A piece with count octets of data is offered to what is held.
-fn join(half: HalfTransfer, top: u8, kind: u8, count: usize) -> PieceRead
-    ensures { result ≡ joining half top kind count }
+#[tactic(auto, using(octets::proofs::Tests::tests), unfolding(proxy::specs::Transfers::joining))]
+fn join(half: Option<HalfTransfer>, place: Place, kind: u8, count: usize) -> PieceRead
+    ensures { result ≡ joining half (top_bits place) kind count }
 {
-    if is_expected(half, top) {
-        if is_like_first(half, kind) {
-            let held = held_length(half);
-            if LONGEST_MESSAGE < count {
-                return disconnect_refused(PieceRefusal::TooLong);
-            }
-            if LONGEST_MESSAGE < held + count {
-                return disconnect_refused(PieceRefusal::TooLong);
-            }
-            return add(top, kind, (held + count) as u16);
-        }
+    if !is_expected(half, place) {
+        return disconnect_refused(PieceRefusal::UnexpectedTopBits);
+    }
+    if !is_like_first(half, kind) {
         return disconnect_refused(PieceRefusal::OtherType);
     }
-    disconnect_refused(PieceRefusal::UnexpectedTopBits)
+    let held = held_length(half);
+    if LONGEST_MESSAGE < count || LONGEST_MESSAGE < held + count {
+        return disconnect_refused(PieceRefusal::TooLong);
+    }
+    add(place, kind, (held + count) as u16)
 }
 
+#[tactic(auto, using(octets::proofs::Tests::tests), unfolding(proxy::specs::Transfers::offered))]
 fn offer(transfer: Transfer, piece: &[u8]) -> PieceRead
     ensures { result ≡ offered transfer piece.now }
 {
@@ -113,36 +119,27 @@ fn offer(transfer: Transfer, piece: &[u8]) -> PieceRead
         return refuse(transfer, PieceRefusal::NoData);
     }
     let first = octet_at(piece, 0);
-    let half = transfer.half;
-    if 3 < first % 64 {
+    let kind = first % 64;
+    if 3 < kind {
         return refuse(transfer, PieceRefusal::ReservedType);
     }
-    join(half, first / 64, first % 64, piece.len() - 1)
+    join(transfer.half, place_of(first), kind, piece.len() - 1)
 }
 
+#[tactic(auto, using(octets::proofs::Tests::tests), unfolding(proxy::specs::Transfers::piece_read))]
 fn judge(transfer: Transfer, room: usize, piece: &[u8]) -> PieceRead
     ensures { result ≡ piece_read transfer room piece.now }
 {
     if room != LONGEST_MESSAGE {
         return refuse(transfer, PieceRefusal::WrongArgument);
     }
-    if is_good(transfer) {
-        if transfer.connected {
-            return offer(transfer, piece);
-        }
+    if !is_good(transfer) {
+        return refuse(transfer, PieceRefusal::BadState);
+    }
+    if !transfer.connected {
         return refuse(transfer, PieceRefusal::Disconnected);
     }
-    refuse(transfer, PieceRefusal::BadState)
-}
-
-fn is_refused(answer: PieceAnswer) -> bool
-    ensures { result ≡ is_refused answer }
-{
-    match answer {
-        PieceAnswer::More => false,
-        PieceAnswer::Whole { kind, length } => false,
-        PieceAnswer::Refused(refusal) => true,
-    }
+    offer(transfer, piece)
 }
 
 // Reads a piece of any length; the buffer has 1,469 octets.
@@ -151,11 +148,9 @@ pub fn read_piece(transfer: Transfer, buffer: &mut [u8], piece: &[u8]) -> PieceR
         × (buffer.new ≡ buffer_after transfer buffer.old piece.now) }
 {
     let read = judge(transfer, buffer.len(), piece);
-    let answer = read.answer;
-    if is_refused(answer) {
-        return read;
+    if read.answer.is_ok() {
+        let held = held_length(transfer.half);
+        octet_parts::copy(buffer, held, piece, 1, piece.len() - 1);
     }
-    let half = transfer.half;
-    octet_parts::copy(buffer, held_length(half), piece, 1, piece.len() - 1);
     read
 }

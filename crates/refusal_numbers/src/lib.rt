@@ -1,4 +1,5 @@
 // Document 01's numbers of refusals, for programs that print them. Each is the number that the definitions give.
+// They stay functions: a `From` has to stand in the crate of its enum, and this one table would lie in five.
 #![tactic(auto)]
 
 ghost use Rattle.std.specs.Prelude.{◌≡◌};

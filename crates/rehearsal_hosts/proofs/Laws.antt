@@ -1,9 +1,10 @@
 -- What stays, case by case.
 use mathlib.Core.Path.{◌≡◌, refl}
+use Rattle.links.specs.declared.Answer.{Answer}
+use Rattle.std.specs.Prelude.{Result, Ok, Err}
 use Rattle.links.specs.declared.Link.{Link}
 use Rattle.links.specs.declared.Refusal.{Refusal}
 use Rattle.links.specs.declared.Refusal.TheVariants as R
-use Rattle.links.specs.declared.Answer.{Answer}
 use Rattle.links.specs.declared.Answer.TheVariants as A
 use Rattle.rehearsal_hosts.specs.Hosts.{station_refused, begun_by}
 use Rattle.rehearsal_hosts.specs.declared.StationHost.{StationHost}
@@ -29,15 +30,15 @@ refused-same h R.OtherUuid = refl
 refused-same h R.Busy = refl
 
 -- what a device has to send of acknowledgements and Acks stays when it begins its message
-pub begun-same : (h : DeviceHost) (link : Link) (a : Answer) → ((begun_by h link a).acknowledgements ≡ h.acknowledgements) × ((begun_by h link a).acks ≡ h.acks)
-begun-same h link (A.Refused r) = (refl, refl)
-begun-same h link A.AcknowledgeAgain = (refl, refl)
-begun-same h link A.Kept = (refl, refl)
-begun-same h link A.Repeat = (refl, refl)
-begun-same h link (A.Delivered n t) = (refl, refl)
-begun-same h link A.Opened = (refl, refl)
-begun-same h link A.Already = (refl, refl)
-begun-same h link (A.Closed reason) = (refl, refl)
-begun-same h link A.Acknowledged = (refl, refl)
-begun-same h link (A.Sending t last) = (refl, refl)
-begun-same h link A.Done = (refl, refl)
+pub begun-same : (h : DeviceHost) (link : Link) (a : Result Answer Refusal) → ((begun_by h link a).acknowledgements ≡ h.acknowledgements) × ((begun_by h link a).acks ≡ h.acks)
+begun-same h link (Err r) = (refl, refl)
+begun-same h link (Ok A.AcknowledgeAgain) = (refl, refl)
+begun-same h link (Ok A.Kept) = (refl, refl)
+begun-same h link (Ok A.Repeat) = (refl, refl)
+begun-same h link (Ok (A.Delivered n t)) = (refl, refl)
+begun-same h link (Ok A.Opened) = (refl, refl)
+begun-same h link (Ok A.Already) = (refl, refl)
+begun-same h link (Ok (A.Closed reason)) = (refl, refl)
+begun-same h link (Ok A.Acknowledged) = (refl, refl)
+begun-same h link (Ok (A.Sending t last)) = (refl, refl)
+begun-same h link (Ok A.Done) = (refl, refl)

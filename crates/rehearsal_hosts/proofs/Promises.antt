@@ -1,4 +1,7 @@
 -- The promises of `specs/Promises.antt`.
+use Rattle.std.specs.Prelude.{Some, Option, None, Result, Ok, Err}
+use Rattle.links.specs.declared.Answer.{Answer}
+use Rattle.links.specs.declared.Refusal.{Refusal}
 use Prim.Native.Nat.{ℕ, ◌+◌, ◌≤◌, ◌<◌}
 use native.Mathlib.Omega.{arith}
 use mathlib.Core.List.{[], ◌∷◌}
@@ -9,8 +12,6 @@ use lib.Dec.{leb}
 use borrow.Author.Tests.{leb-true, le-leb, lt-leb, lt-ltb, le-ltb}
 use Rattle.octets.proofs.Tests.{cases}
 use Rattle.transactions.specs.declared.TransactionNumber.{TransactionNumber}
-use Rattle.links.specs.declared.LastDelivered.{LastDelivered}
-use Rattle.links.specs.declared.LastDelivered.TheVariants as L
 use Rattle.links.specs.declared.LinkState.{LinkState}
 use Rattle.links.specs.declared.LinkState.TheVariants as U
 use Rattle.links.specs.declared.Link.{Link}
@@ -18,7 +19,6 @@ use Rattle.links.specs.declared.Side.TheVariants.{Device}
 use Rattle.links.specs.Station.{link_at, local_send}
 use Rattle.link_steps.specs.declared.Stepped.{Stepped}
 use Rattle.device.specs.Calls.{record_back, only_socket}
-use Rattle.links.specs.declared.Answer.{Answer}
 use Rattle.links.specs.declared.Answer.TheVariants as A
 use Rattle.rehearsal_hosts.specs.Hosts.{one_more, one_fewer, acknowledgement_of, open_sending, station_sending_in, station_notes, with_acknowledgements, device_sending_in, begun, device_notes}
 use Rattle.rehearsal_hosts.specs.Promises.{BothAcknowledgeAlone, AckAfterBoth, AcknowledgesLast, StationSends, DeviceSends, SendsWhatIsDue}
@@ -35,33 +35,33 @@ use Rattle.rehearsal_hosts.proofs.Laws.{refused-same, begun-same}
 counted : (due : ℕ) → due < 4294967295 → one_more due ≡ due + 1
 counted due few = rw (lt-ltb due 4294967295 few)
 
-station-same : (h : StationHost) (a : Answer) → ((n : ℕ) (t : TransactionNumber) → a ≡ A.Delivered n t → ⊥) → (a ≡ A.AcknowledgeAgain → ⊥)
+station-same : (h : StationHost) (a : Result Answer Refusal) → ((n : ℕ) (t : TransactionNumber) → a ≡ Ok (A.Delivered n t) → ⊥) → (a ≡ Ok A.AcknowledgeAgain → ⊥)
     → (station_notes h a).acknowledgements ≡ h.acknowledgements
-station-same h (A.Refused r) d g = refused-same h r
-station-same h A.AcknowledgeAgain d g = absurd (g refl)
-station-same h A.Kept d g = refl
-station-same h A.Repeat d g = refl
-station-same h (A.Delivered n t) d g = absurd (d n t refl)
-station-same h A.Opened d g = refl
-station-same h A.Already d g = refl
-station-same h (A.Closed reason) d g = refl
-station-same h A.Acknowledged d g = refl
-station-same h (A.Sending t last) d g = refl
-station-same h A.Done d g = refl
+station-same h (Err r) d g = refused-same h r
+station-same h (Ok A.AcknowledgeAgain) d g = absurd (g refl)
+station-same h (Ok A.Kept) d g = refl
+station-same h (Ok A.Repeat) d g = refl
+station-same h (Ok (A.Delivered n t)) d g = absurd (d n t refl)
+station-same h (Ok A.Opened) d g = refl
+station-same h (Ok A.Already) d g = refl
+station-same h (Ok (A.Closed reason)) d g = refl
+station-same h (Ok A.Acknowledged) d g = refl
+station-same h (Ok (A.Sending t last)) d g = refl
+station-same h (Ok A.Done) d g = refl
 
-device-same : (h : DeviceHost) (a : Answer) → ((n : ℕ) (t : TransactionNumber) → a ≡ A.Delivered n t → ⊥) → (a ≡ A.AcknowledgeAgain → ⊥)
+device-same : (h : DeviceHost) (a : Result Answer Refusal) → ((n : ℕ) (t : TransactionNumber) → a ≡ Ok (A.Delivered n t) → ⊥) → (a ≡ Ok A.AcknowledgeAgain → ⊥)
     → (device_notes h a).acknowledgements ≡ h.acknowledgements
-device-same h (A.Refused r) d g = refl
-device-same h A.AcknowledgeAgain d g = absurd (g refl)
-device-same h A.Kept d g = refl
-device-same h A.Repeat d g = refl
-device-same h (A.Delivered n t) d g = absurd (d n t refl)
-device-same h A.Opened d g = refl
-device-same h A.Already d g = refl
-device-same h (A.Closed reason) d g = refl
-device-same h A.Acknowledged d g = refl
-device-same h (A.Sending t last) d g = refl
-device-same h A.Done d g = refl
+device-same h (Err r) d g = refl
+device-same h (Ok A.AcknowledgeAgain) d g = absurd (g refl)
+device-same h (Ok A.Kept) d g = refl
+device-same h (Ok A.Repeat) d g = refl
+device-same h (Ok (A.Delivered n t)) d g = absurd (d n t refl)
+device-same h (Ok A.Opened) d g = refl
+device-same h (Ok A.Already) d g = refl
+device-same h (Ok (A.Closed reason)) d g = refl
+device-same h (Ok A.Acknowledged) d g = refl
+device-same h (Ok (A.Sending t last)) d g = refl
+device-same h (Ok A.Done) d g = refl
 
 -- with the acknowledgement that is due on "delivered", by the answer of its local Send
 begun-due : (h : DeviceHost) → let b = with_acknowledgements h (one_more h.acknowledgements) in
@@ -77,30 +77,30 @@ both-acknowledge-alone = (
   λ h. record { delivered = λ few n t. (begun-due h).0 ∙ counted h.acknowledgements few; again = counted h.acknowledgements; other = device-same h },
 )
 
-acks-same : (h : DeviceHost) (a : Answer) → (a ≡ A.Opened → ⊥) → (a ≡ A.Already → ⊥) → (device_notes h a).acks ≡ h.acks
-acks-same h (A.Refused r) o y = refl
-acks-same h A.AcknowledgeAgain o y = refl
-acks-same h A.Kept o y = refl
-acks-same h A.Repeat o y = refl
-acks-same h (A.Delivered n t) o y = (begun-due h).1
-acks-same h A.Opened o y = absurd (o refl)
-acks-same h A.Already o y = absurd (y refl)
-acks-same h (A.Closed reason) o y = refl
-acks-same h A.Acknowledged o y = refl
-acks-same h (A.Sending t last) o y = refl
-acks-same h A.Done o y = refl
+acks-same : (h : DeviceHost) (a : Result Answer Refusal) → (a ≡ Ok A.Opened → ⊥) → (a ≡ Ok A.Already → ⊥) → (device_notes h a).acks ≡ h.acks
+acks-same h (Err r) o y = refl
+acks-same h (Ok A.AcknowledgeAgain) o y = refl
+acks-same h (Ok A.Kept) o y = refl
+acks-same h (Ok A.Repeat) o y = refl
+acks-same h (Ok (A.Delivered n t)) o y = (begun-due h).1
+acks-same h (Ok A.Opened) o y = absurd (o refl)
+acks-same h (Ok A.Already) o y = absurd (y refl)
+acks-same h (Ok (A.Closed reason)) o y = refl
+acks-same h (Ok A.Acknowledged) o y = refl
+acks-same h (Ok (A.Sending t last)) o y = refl
+acks-same h (Ok A.Done) o y = refl
 
 pub ack-after-both : AckAfterBoth
 ack-after-both = record { opened = λ h. counted h.acks; already = λ h. counted h.acks; other = acks-same }
 
 -- ---- what is sent
 
-last-number : (last : LastDelivered) (t : TransactionNumber) → acknowledgement_of last ≡ Acknowledgement t → last ≡ L.Number t
-last-number L.Nothing t e = let z : ◌≡◌ {A = ℕ} 0 1 = cc in absurd (omega arith)
-last-number (L.Number u) t e = cc
+last-number : (last : Option TransactionNumber) (t : TransactionNumber) → acknowledgement_of last ≡ Some (Acknowledgement t) → last ≡ Some t
+last-number None t e = let z : ◌≡◌ {A = ℕ} 0 1 = cc in absurd (omega arith)
+last-number (Some u) t e = cc
 
 module _ (link : Link) (due segment : ℕ) (t : TransactionNumber) where
-  open-acknowledges : open_sending link due segment ≡ Acknowledgement t → (1 ≤ due) × (link.last ≡ L.Number t)
+  open-acknowledges : open_sending link due segment ≡ Some (Acknowledgement t) → (1 ≤ due) × (link.last ≡ Some t)
   open-acknowledges =
       cases (leb 1 due)
       (λ p. rw p (λ e. (leb-true 1 due p, last-number link.last t e)))
@@ -108,8 +108,8 @@ module _ (link : Link) (due segment : ℕ) (t : TransactionNumber) where
       (λ q. rw q (λ e. let z : ◌≡◌ {A = ℕ} 0 1 = cc in absurd (omega arith)))
       (λ q. rw q (λ e. let z : ◌≡◌ {A = ℕ} 0 1 = cc in absurd (omega arith)))))
 
-station-last : (u : LinkState) (h : StationHost) (link : Link) (t : TransactionNumber) → station_sending_in u h link ≡ Acknowledgement t
-    → (1 ≤ h.acknowledgements) × (link.last ≡ L.Number t)
+station-last : (u : LinkState) (h : StationHost) (link : Link) (t : TransactionNumber) → station_sending_in u h link ≡ Some (Acknowledgement t)
+    → (1 ≤ h.acknowledgements) × (link.last ≡ Some t)
 station-last U.Free h link t =
     cases (leb 1 h.closes)
     (λ p. rw p (λ e. let z : ◌≡◌ {A = ℕ} 0 1 = cc in absurd (omega arith)))
@@ -117,8 +117,8 @@ station-last U.Free h link t =
 station-last U.Opening h link t = λ e. let z : ◌≡◌ {A = ℕ} 0 1 = cc in absurd (omega arith)
 station-last U.Open h link t = open-acknowledges link h.acknowledgements 0 t
 
-device-last : (u : LinkState) (h : DeviceHost) (t : TransactionNumber) → device_sending_in u h ≡ Acknowledgement t
-    → (1 ≤ h.acknowledgements) × (h.link.last ≡ L.Number t)
+device-last : (u : LinkState) (h : DeviceHost) (t : TransactionNumber) → device_sending_in u h ≡ Some (Acknowledgement t)
+    → (1 ≤ h.acknowledgements) × (h.link.last ≡ Some t)
 device-last U.Free h t = λ e. let z : ◌≡◌ {A = ℕ} 0 1 = cc in absurd (omega arith)
 device-last U.Opening h t = λ e. let z : ◌≡◌ {A = ℕ} 0 1 = cc in absurd (omega arith)
 device-last U.Open h t =
@@ -144,18 +144,18 @@ module _ (e : StationEnd) (s : Socket) where
   abbrev here : Link
   here = link_at e.links s
 
-  station-due : here.state ≡ U.Open → 1 ≤ e.host.acknowledgements → (t : TransactionNumber) → here.last ≡ L.Number t
-      → ((station_next e s).sending ≡ Acknowledgement t) × ((station_next e s).end.host.acknowledgements + 1 ≡ e.host.acknowledgements)
+  station-due : here.state ≡ U.Open → 1 ≤ e.host.acknowledgements → (t : TransactionNumber) → here.last ≡ Some t
+      → ((station_next e s).sending ≡ Some (Acknowledgement t)) × ((station_next e s).end.host.acknowledgements + 1 ≡ e.host.acknowledgements)
   station-due is_open some t last = rw (is_open, le-leb 1 e.host.acknowledgements some, last) (refl, one_less e.host.acknowledgements some)
 
   station-closing : here.state ≡ U.Free → 1 ≤ e.host.closes
-      → ((station_next e s).sending ≡ Close e.host.reason) × ((station_next e s).end.host.closes + 1 ≡ e.host.closes)
+      → ((station_next e s).sending ≡ Some (Close e.host.reason)) × ((station_next e s).end.host.closes + 1 ≡ e.host.closes)
   station-closing free some = rw (free, le-leb 1 e.host.closes some) (refl, one_less e.host.closes some)
 
-  answered-not : (last : LastDelivered) → (last ≡ L.Nothing) ⊎ (1 ≤ e.host.acknowledgements) → answered_by e s last ≡ e
+  answered-not : (last : Option TransactionNumber) → (last ≡ None) ⊎ (1 ≤ e.host.acknowledgements) → answered_by e s last ≡ e
   answered-not last (inl none) = rw none
-  answered-not L.Nothing (inr some) = refl
-  answered-not (L.Number t) (inr some) = rw (le-leb 1 e.host.acknowledgements some)
+  answered-not None (inr some) = refl
+  answered-not (Some t) (inr some) = rw (le-leb 1 e.host.acknowledgements some)
 
   station-sends : StationSends e s
   station-sends = record {

@@ -2,13 +2,13 @@
 ghost use Rattle.std.specs.Prelude.{◌≡◌};
 ghost use Rattle.links.specs.Device.{heard};
 ghost use Rattle.station.specs.Calls.{receiving};
-ghost use Rattle.rehearsal_hosts.specs.Ends.{invited, station_heard, opened_end, closed_end, answered_by, answered_end, station_next, with_link, device_heard, device_next};
+ghost use Rattle.rehearsal_hosts.specs.Ends.{invited, station_heard, opened_end, closed_end, answered_by, answered_end, station_next, device_heard, device_next};
 
 use super::devices::{device_notes, device_sending, device_sent};
 use super::stations::{station_closes, station_notes, station_sending, station_sent};
-use super::{DeviceHost, DeviceNext, StationEnd, StationNext};
-use links::{Answer, LastDelivered, Link};
-use transactions::Socket;
+use super::{DeviceHost, Next, StationEnd};
+use links::{Answer, Link, Refusal};
+use transactions::{Socket, TransactionNumber};
 
 // The octets of the Invite.
 pub const INVITE_LENGTH: usize = 2;
@@ -22,25 +22,20 @@ const FAILED: u8 = 2;
 pub fn open_link(end: StationEnd, socket: Socket, id: u32) -> StationEnd
     ensures { result ≡ opened_end end socket id }
 {
-    let links = end.links;
-    let host = end.host;
-    let called = local_calls::open(links, socket, id);
-    let after = called.links;
-    StationEnd {
-        links: after,
-        host: host,
-    }
+    let called = local_calls::open(end.links, socket, id);
+    // Through a local, here and below: the check has no rule for an array taken out of what a call hands back.
+    let links = called.links;
+    StationEnd { links, ..end }
 }
 
 // Once a link is open, the station begins to send the Invite.
-fn invite(links: [Link; 8], socket: Socket, answer: Answer) -> [Link; 8]
+fn invite(links: [Link; 8], socket: Socket, answer: Result<Answer, Refusal>) -> [Link; 8]
     ensures { result ≡ invited links socket answer }
 {
-    let Answer::Opened = answer else {
+    let Ok(Answer::Opened) = answer else {
         return links;
     };
-    let called = local_calls::send(links, socket, INVITE_LENGTH);
-    called.links
+    local_calls::send(links, socket, INVITE_LENGTH).links
 }
 
 // The station hears a frame of the module at a socket.
@@ -48,13 +43,10 @@ pub fn station_hears(end: StationEnd, socket: Socket, area: &mut [u8], frame: &[
     ensures { (result ≡ station_heard end socket area.old frame.now)
         × (area.new ≡ (receiving end.links area.old frame.now).1.area) }
 {
-    let links = end.links;
-    let received = station::receive(links, area, frame);
-    let after = received.links;
-    let answer = received.answer;
+    let received = station::receive(end.links, area, frame);
     StationEnd {
-        links: invite(after, socket, answer),
-        host: station_notes(end.host, answer),
+        links: invite(received.links, socket, received.answer),
+        host: station_notes(end.host, received.answer),
     }
 }
 
@@ -62,28 +54,22 @@ pub fn station_hears(end: StationEnd, socket: Socket, area: &mut [u8], frame: &[
 pub fn close_link(end: StationEnd, socket: Socket, reason: u8) -> StationEnd
     ensures { result ≡ closed_end end socket reason }
 {
-    let links = end.links;
-    let called = local_calls::close(links, socket);
-    let after = called.links;
-    let answer = called.answer;
-    let Answer::Done = answer else {
+    let called = local_calls::close(end.links, socket);
+    let Ok(Answer::Done) = called.answer else {
         return end;
     };
+    let links = called.links;
     StationEnd {
-        links: after,
+        links,
         host: station_closes(end.host, reason),
     }
 }
 
 // What is done once a message was delivered last.
-fn close_after(end: StationEnd, socket: Socket, last: LastDelivered) -> StationEnd
+fn close_after(end: StationEnd, socket: Socket, last: Option<TransactionNumber>) -> StationEnd
     ensures { result ≡ answered_by end socket last }
 {
-    let LastDelivered::Number(_) = last else {
-        return end;
-    };
-    let host = end.host;
-    if 1 <= host.acknowledgements {
+    if last.is_none() || 1 <= end.host.acknowledgements {
         return end;
     }
     close_link(end, socket, FAILED)
@@ -93,35 +79,24 @@ fn close_after(end: StationEnd, socket: Socket, last: LastDelivered) -> StationE
 pub fn close_answered(end: StationEnd, socket: Socket) -> StationEnd
     ensures { result ≡ answered_end end socket }
 {
-    let links = end.links;
-    let link = link_records::link_at(links, socket.place());
-    let last = link.last;
-    close_after(end, socket, last)
+    let link = link_records::link_at(end.links, socket.place());
+    close_after(end, socket, link.last)
 }
 
 // The station sends what it has to send at a socket.
-pub fn station_next(end: StationEnd, socket: Socket) -> StationNext
+pub fn station_next(end: StationEnd, socket: Socket) -> Next<StationEnd>
     ensures { result ≡ station_next end socket }
 {
-    let links = end.links;
-    let link = link_records::link_at(links, socket.place());
+    let link = link_records::link_at(end.links, socket.place());
     let sending = station_sending(end.host, link);
     let after = StationEnd {
-        links: links,
         host: station_sent(end.host, sending),
+        ..end
     };
-    StationNext {
+    Next {
         end: after,
-        sending: sending,
+        sending,
     }
-}
-
-fn with_link(host: DeviceHost, link: Link) -> DeviceHost
-    ensures { result ≡ with_link host link }
-{
-    let mut after = host;
-    after.link = link;
-    after
 }
 
 // A device hears a frame; its own UUID and its area are lent.
@@ -130,18 +105,20 @@ pub fn device_hears(host: DeviceHost, own: &[u8], area: &mut [u8], frame: &[u8])
         × (area.new ≡ (heard own.now host.link area.old frame.now).1.area) }
 {
     let stepped = device::receive(host.link, own, area, frame);
-    let link = stepped.link;
-    let answer = stepped.answer;
-    device_notes(with_link(host, link), answer)
+    let after = DeviceHost {
+        link: stepped.link,
+        ..host
+    };
+    device_notes(after, stepped.answer)
 }
 
 // A device sends what it has to send.
-pub fn device_next(host: DeviceHost) -> DeviceNext
+pub fn device_next(host: DeviceHost) -> Next<DeviceHost>
     ensures { result ≡ device_next host }
 {
     let sending = device_sending(host);
-    DeviceNext {
-        host: device_sent(host, sending),
-        sending: sending,
+    Next {
+        end: device_sent(host, sending),
+        sending,
     }
 }

@@ -14,14 +14,15 @@ pub use ends::{
     INVITE_LENGTH, TIMED_OUT, close_answered, close_link, device_hears, device_next, open_link,
     station_hears, station_next,
 };
-use links::{LastDelivered, Link};
+use links::Link;
 pub use stations::new_station;
 use transactions::TransactionNumber;
 
 // What the station's host keeps of a socket.
 #[derive(Clone, Copy)]
 pub struct StationHost {
-    // Acknowledgements and Closes that are due, and the reason of the Closes.
+    // Acknowledgements and Closes that are due, and the reason of the Closes. It stays beside their number: on refusal 3 Closes are due again with the reason
+    // that was given last, also where none is due (station_refused).
     pub acknowledgements: u32,
     pub closes: u32,
     pub reason: u8,
@@ -38,7 +39,7 @@ pub struct StationEnd {
 #[derive(Clone, Copy)]
 pub struct DeviceHost {
     pub link: Link,
-    // The octets of its message; 0 where there is no device.
+    // The octets of its message.
     pub length: usize,
     // Acks and acknowledgements that are due.
     pub acks: u32,
@@ -51,7 +52,6 @@ pub struct DeviceHost {
 // A frame that is to be sent.
 #[derive(Clone, Copy)]
 pub enum Sending {
-    Nothing,
     Open,
     Ack,
     Close {
@@ -64,58 +64,46 @@ pub enum Sending {
     },
 }
 
-// The station at a socket after it sent a frame, and the frame.
+// An end after it sent what it had to send, and the frame; none where it had nothing to send.
 #[derive(Clone, Copy)]
-pub struct StationNext {
-    pub end: StationEnd,
-    pub sending: Sending,
-}
-
-// A device after it sent a frame, and the frame.
-#[derive(Clone, Copy)]
-pub struct DeviceNext {
-    pub host: DeviceHost,
-    pub sending: Sending,
+pub struct Next<E> {
+    pub end: E,
+    pub sending: Option<Sending>,
 }
 
 // One more is due.
 fn one_more(due: u32) -> u32
     ensures { result ≡ one_more due }
 {
-    if due < u32::MAX { due + 1 } else { due }
+    due.saturating_add(1)
 }
 
 // One that was due is sent.
 fn one_fewer(due: u32) -> u32
     ensures { result ≡ one_fewer due }
 {
-    if 1 <= due { due - 1 } else { 0 }
+    due.saturating_sub(1)
 }
 
 // The acknowledgement of the message that was delivered last.
-fn acknowledgement_of(last: LastDelivered) -> Sending
+fn acknowledgement_of(last: Option<TransactionNumber>) -> Option<Sending>
     ensures { result ≡ acknowledgement_of last }
 {
-    match last {
-        LastDelivered::Nothing => Sending::Nothing,
-        LastDelivered::Number(number) => Sending::Acknowledgement(number),
-    }
+    last.map(Sending::Acknowledgement)
 }
 
 // On an open link: an acknowledgement that is due, or else a segment of the message that is outstanding.
-fn open_sending(link: Link, due: u32, segment: u16) -> Sending
+fn open_sending(link: Link, due: u32, segment: u16) -> Option<Sending>
     ensures { result ≡ open_sending link due segment }
 {
     if 1 <= due {
-        let last = link.last;
-        return acknowledgement_of(last);
-    }
-    if link.outstanding {
-        let number = link.next;
-        return Sending::Segment {
-            number: number,
+        acknowledgement_of(link.last)
+    } else if link.outstanding {
+        Some(Sending::Segment {
+            number: link.next,
             index: segment,
-        };
+        })
+    } else {
+        None
     }
-    Sending::Nothing
 }

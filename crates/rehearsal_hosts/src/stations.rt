@@ -1,6 +1,6 @@
 // The station's host.
 ghost use Rattle.std.specs.Prelude.{◌≡◌};
-ghost use Rattle.rehearsal_hosts.specs.Hosts.{new_station, with_due, with_closes, close_sending, station_sending, station_sent, station_refused, station_notes};
+ghost use Rattle.rehearsal_hosts.specs.Hosts.{new_station, with_closes, close_sending, station_sending, station_sent, station_refused, station_notes};
 
 use super::{Sending, StationHost, one_fewer, one_more, open_sending};
 use links::{Answer, Link, LinkState, Refusal};
@@ -19,54 +19,43 @@ pub fn new_station() -> StationHost
     }
 }
 
-fn with_due(host: StationHost, acknowledgements: u32) -> StationHost
-    ensures { result ≡ with_due host acknowledgements }
-{
-    let mut after = host;
-    after.acknowledgements = acknowledgements;
-    after
-}
-
-fn with_closes(host: StationHost, closes: u32, reason: u8) -> StationHost
-    ensures { result ≡ with_closes host closes reason }
-{
-    let mut after = host;
-    after.closes = closes;
-    after.reason = reason;
-    after
-}
-
 // A Close, if one is due.
-fn close_sending(host: StationHost) -> Sending
+fn close_sending(host: StationHost) -> Option<Sending>
     ensures { result ≡ close_sending host }
 {
     if 1 <= host.closes {
-        return Sending::Close {
+        Some(Sending::Close {
             reason: host.reason,
-        };
+        })
+    } else {
+        None
     }
-    Sending::Nothing
 }
 
 // What the station sends at a socket, by its record. The Invite has one segment.
-pub fn station_sending(host: StationHost, link: Link) -> Sending
+pub fn station_sending(host: StationHost, link: Link) -> Option<Sending>
     ensures { result ≡ station_sending host link }
 {
-    let state = link.state;
-    match state {
+    match link.state {
         LinkState::Free => close_sending(host),
-        LinkState::Opening => Sending::Open,
+        LinkState::Opening => Some(Sending::Open),
         LinkState::Open => open_sending(link, host.acknowledgements, 0),
     }
 }
 
 // The host after a frame was sent.
-pub fn station_sent(host: StationHost, sending: Sending) -> StationHost
+pub fn station_sent(host: StationHost, sending: Option<Sending>) -> StationHost
     ensures { result ≡ station_sent host sending }
 {
     match sending {
-        Sending::Acknowledgement(_) => with_due(host, one_fewer(host.acknowledgements)),
-        Sending::Close { reason: _ } => with_closes(host, one_fewer(host.closes), host.reason),
+        Some(Sending::Acknowledgement(_)) => StationHost {
+            acknowledgements: one_fewer(host.acknowledgements),
+            ..host
+        },
+        Some(Sending::Close { .. }) => StationHost {
+            closes: one_fewer(host.closes),
+            ..host
+        },
         _ => host,
     }
 }
@@ -75,7 +64,11 @@ pub fn station_sent(host: StationHost, sending: Sending) -> StationHost
 pub fn station_closes(host: StationHost, reason: u8) -> StationHost
     ensures { result ≡ with_closes host 3 reason }
 {
-    with_closes(host, CLOSES, reason)
+    StationHost {
+        closes: CLOSES,
+        reason,
+        ..host
+    }
 }
 
 // A module that is heard on a closed link has not heard the Close.
@@ -83,22 +76,21 @@ fn station_refused(host: StationHost, refusal: Refusal) -> StationHost
     ensures { result ≡ station_refused host refusal }
 {
     match refusal {
-        Refusal::UnknownLink => with_closes(host, CLOSES, host.reason),
+        Refusal::UnknownLink => station_closes(host, host.reason),
         _ => host,
     }
 }
 
 // The host after an answer.
-pub fn station_notes(host: StationHost, answer: Answer) -> StationHost
+pub fn station_notes(host: StationHost, answer: Result<Answer, Refusal>) -> StationHost
     ensures { result ≡ station_notes host answer }
 {
     match answer {
-        Answer::Delivered {
-            length: _,
-            number: _,
-        } => with_due(host, one_more(host.acknowledgements)),
-        Answer::AcknowledgeAgain => with_due(host, one_more(host.acknowledgements)),
-        Answer::Refused(refusal) => station_refused(host, refusal),
-        _ => host,
+        Ok(Answer::Delivered { .. } | Answer::AcknowledgeAgain) => StationHost {
+            acknowledgements: one_more(host.acknowledgements),
+            ..host
+        },
+        Ok(_) => host,
+        Err(refusal) => station_refused(host, refusal),
     }
 }

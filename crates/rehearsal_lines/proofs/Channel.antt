@@ -1,21 +1,35 @@
 -- Laws of the channel's line: the fields between its spaces, and its numbers.
+use Rattle.std.specs.Prelude.{Some, None, position}
+use Rattle.std.specs.List.{position_or_len}
+use Rattle.std.specs.Option.{unwrap_or}
 use Prim.Native.Nat.{ℕ, ◌+◌, ◌-◌, ◌≤◌}
 use native.Mathlib.Omega.{arith}
 use mathlib.Core.Bool.{false}
 use mathlib.Core.List.{List, [], ◌∷◌}
 use mathlib.Core.Path.{◌≡◌, refl, ap, ◌∙◌}
-use lib.Dec.{eqb}
+use lib.Dec.{eqb, ltb}
+use borrow.Author.Tests.{ltb-false}
 use lib.ListN.{length, take, drop, length-drop, drop_of_length-le}
 use lib.Seq.{take_all}
 use Rattle.octets.proofs.Tests.{cases}
 use Rattle.rehearsal_lines.specs.Lines.{is_decimal, decimal_read, field, behind, rates_of, settings_of}
 use Rattle.rehearsal_lines.specs.declared.Line.TheVariants.{Channel, Other}
-use Rattle.rehearsal_lines.specs.declared.decimals.Decimal.TheVariants.{Number, Nothing}
 use Rattle.rehearsal_lines.proofs.Numbers.{told-nothing, told-number}
 
--- the characters before place i all stand in the first field
-abbrev pub Counted : List ℕ → ℕ → Type 0
-Counted text i = i + length (field (drop i text)) ≡ length (field text)
+-- the first field ends before the first space, or with the text
+field-place : (text : List ℕ) → (position_or_len (λ c. eqb c 32) text ≡ length (field text)) × (length (field text) ≤ length text)
+field-place [] = (refl, omega arith)
+field-place (c ∷ text) =
+    let rest = field-place text in
+    cases (eqb c 32) (λ e. rw e (refl, omega arith)) (λ e. rw e (omega (arith, rest), omega (arith, rest)))
+
+pub field-ends : (text : List ℕ) → let n = unwrap_or (position (λ c. eqb c 32) text) (length text) in (n ≡ length (field text)) × (n ≤ length text)
+field-ends text =
+    let f = field-place text in
+    cases (ltb (position_or_len (λ c. eqb c 32) text) (length text))
+    (λ p. rw p (f.0, omega (arith, f)))
+    (λ p. let many = ltb-false (position_or_len (λ c. eqb c 32) text) (length text) p in
+    rw p (omega (arith, f), omega arith))
 
 -- the first field is a front
 field-front : (text : List ℕ) → take (length (field text)) text ≡ field text
@@ -41,7 +55,7 @@ module _ (text : List ℕ) (n : ℕ) (e : n ≡ length (field text)) where
 -- ---- the rates
 
 module _ (seed : ℕ) (rates : List ℕ) where
-  pub lost-wrong : decimal_read (field rates) 100 ≡ Nothing → Other ≡ rates_of seed rates
+  pub lost-wrong : decimal_read (field rates) 100 ≡ None → Other ≡ rates_of seed rates
   unfolding rates_of
   lost-wrong e = rw (told-nothing (field rates) 100 e)
 
@@ -49,13 +63,13 @@ module _ (seed : ℕ) (rates : List ℕ) where
   unfolding rates_of
   wrong-behind e = rw e (cases (is_decimal (field rates) 100) (λ p. rw p) (λ p. rw p))
 
-  pub repeated-wrong : decimal_read (behind rates) 100 ≡ Nothing → Other ≡ rates_of seed rates
+  pub repeated-wrong : decimal_read (behind rates) 100 ≡ None → Other ≡ rates_of seed rates
   repeated-wrong e = wrong-behind (told-nothing (behind rates) 100 e)
 
   pub repeated-missing : behind rates ≡ [] → Other ≡ rates_of seed rates
   repeated-missing e = wrong-behind (rw e)
 
-  pub rates-right : {lost repeated : ℕ} → decimal_read (field rates) 100 ≡ Number lost → decimal_read (behind rates) 100 ≡ Number repeated
+  pub rates-right : {lost repeated : ℕ} → decimal_read (field rates) 100 ≡ Some lost → decimal_read (behind rates) 100 ≡ Some repeated
       → Channel seed lost repeated ≡ rates_of seed rates
   unfolding rates_of
   rates-right p q =
@@ -66,7 +80,7 @@ module _ (seed : ℕ) (rates : List ℕ) where
 -- ---- the seed
 
 module _ (settings : List ℕ) where
-  pub seed-wrong : decimal_read (field settings) 4294967295 ≡ Nothing → Other ≡ settings_of settings
+  pub seed-wrong : decimal_read (field settings) 4294967295 ≡ None → Other ≡ settings_of settings
   unfolding settings_of
   seed-wrong e = rw (told-nothing (field settings) 4294967295 e)
 
@@ -74,6 +88,6 @@ module _ (settings : List ℕ) where
   unfolding settings_of rates_of
   rates-missing e = rw e (cases (is_decimal (field settings) 4294967295) (λ p. rw p) (λ p. rw p))
 
-  pub seed-right : {seed : ℕ} → decimal_read (field settings) 4294967295 ≡ Number seed → rates_of seed (behind settings) ≡ settings_of settings
+  pub seed-right : {seed : ℕ} → decimal_read (field settings) 4294967295 ≡ Some seed → rates_of seed (behind settings) ≡ settings_of settings
   unfolding settings_of
   seed-right e = let s = told-number (field settings) 4294967295 e in rw (s.0, s.1)

@@ -1,39 +1,38 @@
 -- Laws of a line that is a module's, and of the word that marks the channel's.
+use Rattle.std.specs.Prelude.{Some, None}
 use Prim.Native.Nat.{ℕ, ◌/◌, ◌%◌, ◌≤◌, ◌<◌}
-use native.Mathlib.Nat.{sub-zero}
 use native.Mathlib.Omega.{arith}
 use mathlib.Core.Bool.{true, false, false≢true}
-use mathlib.Core.List.{List}
+use mathlib.Core.List.{List, [], ◌∷◌}
 use mathlib.Core.Path.{◌≡◌, refl, sym, ap, ◌∙◌}
 use lib.Dec.{leb, eqb}
-use lib.ListN.{length, take, get_or, length-take, length-drop}
+use lib.Pointwise.{pointwise}
+use Rattle.std.proofs.Common.{nat_eq}
+use lib.ListN.{length, take, get_or, length-drop}
 use lib.Seq.{get_or-take}
-use borrow.Author.Tests.{le-leb, lt-leb, eq-eqb, leb-true, leb-false, eqb-true}
-use Rattle.octets.specs.Parts.{same_part}
-use Rattle.octets.proofs.Parts.{same-exactly, same-part-fits}
+use borrow.Author.Tests.{le-leb, eq-eqb, leb-true, eqb-true}
+use Rattle.octets.specs.Parts.{same}
 use Rattle.octets.proofs.Tests.{cases, both_hold, length-out}
 use Rattle.hexadecimal.specs.Hex.{is_hexadecimal, decoded_of, decoded_output}
-use Rattle.hexadecimal.specs.declared.Decoded.TheVariants.{Octets}
+use Rattle.std.specs.Prelude.{Ok}
 use Rattle.hexadecimal.proofs.Readings.{read-octets, read-output}
 use Rattle.log_lines.specs.Lines.{is_opening, socket_in, id_in, opening_of}
-use Rattle.log_lines.specs.declared.Opening.TheVariants.{Opens, Nothing}
-use Rattle.transactions.specs.declared.Socket.{Socket}
-use Rattle.rehearsal_lines.specs.Lines.{message_digits, is_module, is_held, module_of, module_room, channel_word, is_channel}
+use Rattle.log_lines.specs.declared.Opening.{Opening}
+use Rattle.rehearsal_lines.specs.Lines.{message_digits, is_module, is_held, module_of, module_room}
 use Rattle.rehearsal_lines.specs.declared.Line.TheVariants.{Module, Other}
 
 -- ---- openings
 
 module _ (line : List ℕ) where
-  opens : {s : Socket} {id : ℕ} → opening_of line ≡ Opens s id → (is_opening line ≡ true) × (socket_in line ≡ s) × (id_in line ≡ id)
+  opens : {o : Opening} → opening_of line ≡ Some o → (is_opening line ≡ true) × (socket_in line ≡ o.socket) × (id_in line ≡ o.id)
   unfolding opening_of
-  opens {s} {id} =
+  opens {o} =
       cases (is_opening line)
-      (λ p. rw p (λ e. let same : socket_in line ≡ s = cc in
-      let same_id : id_in line ≡ id = cc in
-      (refl, same, same_id)))
+      (λ p. rw p (λ e. let same : record { socket = socket_in line; id = id_in line } ≡ o = cc in
+      (refl, ap (λ (x : Opening). x.socket) same, ap (λ (x : Opening). x.id) same)))
       (λ p. rw p (λ e. let z : ◌≡◌ {A = ℕ} 0 1 = cc in absurd (omega arith)))
 
-  opens_not : opening_of line ≡ Nothing → is_opening line ≡ false
+  opens_not : opening_of line ≡ None → is_opening line ≡ false
   unfolding opening_of
   opens_not = cases (is_opening line) (λ p. rw p (λ e. let z : ◌≡◌ {A = ℕ} 0 1 = cc in absurd (omega arith))) (λ p e. p)
 
@@ -74,15 +73,15 @@ module _ (line room : List ℕ) where
   pub no-space : (get_or line 10 0 ≡ 32 → ⊥) → (Other ≡ module_of line room) × (room ≡ module_room line room)
   no-space h = not-held (λ e. h (held-so e).1)
 
-  pub no-opening : opening_of (take 10 line) ≡ Nothing → (Other ≡ module_of line room) × (room ≡ module_room line room)
+  pub no-opening : opening_of (take 10 line) ≡ None → (Other ≡ module_of line room) × (room ≡ module_room line room)
   no-opening h = not-held (λ e. false≢true (sym (opens_not (take 10 line) h) ∙ (held-so e).0))
 
   -- digits that are read into the room
-  reads : is_hexadecimal digits ≡ true → length digits / 2 ≤ length room → decoded_of digits room ≡ Octets (length digits / 2)
+  reads : is_hexadecimal digits ≡ true → length digits / 2 ≤ length room → decoded_of digits room ≡ Ok (length digits / 2)
   unfolding decoded_of
   reads p h = rw (p, le-leb (length digits / 2) (length room) h)
 
-  unread-room : ((n : ℕ) → decoded_of digits room ≡ Octets n → ⊥) → decoded_output digits room ≡ room
+  unread-room : ((n : ℕ) → decoded_of digits room ≡ Ok n → ⊥) → decoded_output digits room ≡ room
   unfolding decoded_output
   unread-room h =
       cases (is_hexadecimal digits)
@@ -91,14 +90,14 @@ module _ (line room : List ℕ) where
       (λ q. rw q)))
       (λ p. rw p)
 
-  pub no-message : ((n : ℕ) → decoded_of digits room ≡ Octets n → ⊥) → (Other ≡ module_of line room) × (decoded_output digits room ≡ module_room line room)
+  pub no-message : ((n : ℕ) → decoded_of digits room ≡ Ok n → ⊥) → (Other ≡ module_of line room) × (decoded_output digits room ≡ module_room line room)
   no-message h =
       let none = not-held (λ e. h _ (reads (held-so e).2 (held-so e).6)) in
       (none.0, unread-room h ∙ none.1)
 
   module _ (short : 13 ≤ length line) (long : length line ≤ 2949) (space : get_or line 10 0 ≡ 32) where
-    pub a-module : {s : Socket} {id n : ℕ} → opening_of (take 10 line) ≡ Opens s id → decoded_of digits room ≡ Octets n
-        → (Module s id n ≡ module_of line room) × (decoded_output digits room ≡ module_room line room)
+    pub a-module : {o : Opening} {n : ℕ} → opening_of (take 10 line) ≡ Some o → decoded_of digits room ≡ Ok n
+        → (Module o.socket o.id n ≡ module_of line room) × (decoded_output digits room ≡ module_room line room)
     unfolding module_of module_room
     a-module p q =
         let o = opens (take 10 line) p in
@@ -113,16 +112,9 @@ module _ (line room : List ℕ) where
 
 -- ---- the channel's word
 
-module _ (line : List ℕ) where
-  pub channel-long : is_channel line ≡ true → 8 ≤ length line
-  channel-long e = omega (arith, ap length ((same-exactly (take 8 line) channel_word).0 e), length-take 8 line)
-
-  pub word-compared : same_part line 0 channel_word 0 8 ≡ is_channel line
-  unfolding same_part
-  word-compared =
-      cases (leb 8 (length line))
-      (λ p. same-part-fits line 0 channel_word 0 8 (leb-true 8 (length line) p) (omega arith))
-      (λ p. let few = leb-false 8 (length line) p in
-      cases (is_channel line)
-      (λ q. absurd (omega (arith, channel-long q)))
-      (λ q. rw (sub-zero (length line), le-leb 0 (length line) (omega arith), lt-leb 8 (length line) few, q)))
+-- the library's test of two texts is that of the definitions
+pub texts-compared : (l m : List ℕ) → pointwise nat_eq l m ≡ same l m
+texts-compared [] [] = refl
+texts-compared [] (y ∷ m) = refl
+texts-compared (x ∷ l) [] = refl
+texts-compared (x ∷ l) (y ∷ m) = rw (texts-compared l m) refl

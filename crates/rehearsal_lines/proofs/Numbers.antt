@@ -1,4 +1,5 @@
 -- Laws of decimal numbers: a text read digit by digit, and what an answer tells of it.
+use Rattle.std.specs.Prelude.{Some, None}
 use Prim.Native.Nat.{ℕ, zero, suc, ◌+◌, ◌*◌, ◌-◌, ◌/◌, ◌%◌, ◌≤◌, ◌<◌}
 use native.Mathlib.Omega.{arith}
 use mathlib.Core.Bool.{true, false, ◌&&◌}
@@ -11,7 +12,6 @@ use Rattle.octets.proofs.Loops.{left_here, stops, nothing_left}
 use Rattle.octets.proofs.Tests.{cases, both_hold}
 use Rattle.line_fields.specs.Lines.{digits_up_to, decimal_of}
 use Rattle.rehearsal_lines.specs.Lines.{is_digit, all_decimal, value_from, is_decimal, decimal_read}
-use Rattle.rehearsal_lines.specs.declared.decimals.Decimal.TheVariants.{Number, Nothing}
 
 pub digit-so : (c : ℕ) → is_digit c ≡ true → (48 ≤ c) × (c ≤ 57)
 unfolding is_digit
@@ -25,21 +25,21 @@ grows value (c ∷ text) = omega (arith, grows (value * 10 + (c - 48)) text)
 -- ---- by what a text is
 
 module _ (text : List ℕ) (most : ℕ) where
-  pub no-digits : length text ≡ 0 → Nothing ≡ decimal_read text most
+  pub no-digits : length text ≡ 0 → None ≡ decimal_read text most
   unfolding decimal_read
   no-digits e = rw e
 
-  no-decimal : all_decimal text ≡ false → Nothing ≡ decimal_read text most
+  no-decimal : all_decimal text ≡ false → None ≡ decimal_read text most
   unfolding decimal_read
   no-decimal e = rw e (cases (leb 1 (length text)) (λ p. rw p) (λ p. rw p))
 
-  too_much : most < value_from 0 text → Nothing ≡ decimal_read text most
+  too_much : most < value_from 0 text → None ≡ decimal_read text most
   unfolding decimal_read
   too_much h =
       rw (lt-leb (value_from 0 text) most h)
       (cases (leb 1 (length text)) (λ p. rw p (cases (all_decimal text) (λ q. rw q) (λ q. rw q))) (λ p. rw p))
 
-  a-decimal : 1 ≤ length text → all_decimal text ≡ true → value_from 0 text ≤ most → Number (value_from 0 text) ≡ decimal_read text most
+  a-decimal : 1 ≤ length text → all_decimal text ≡ true → value_from 0 text ≤ most → Some (value_from 0 text) ≡ decimal_read text most
   unfolding decimal_read
   a-decimal some digits few = rw (le-leb 1 (length text) some, digits, le-leb (value_from 0 text) most few)
 
@@ -58,15 +58,15 @@ module _ (text : List ℕ) (value i : ℕ) (left : Left text value i) where
     next-left : value_from next (drop (i + 1) text) ≡ value_from 0 text
     next-left = rw (left_here text i 0 h) at left.1
 
-    pub wrong-digit : (most : ℕ) → is_digit (get_or text i 0) ≡ false → Nothing ≡ decimal_read text most
+    pub wrong-digit : (most : ℕ) → is_digit (get_or text i 0) ≡ false → None ≡ decimal_read text most
     wrong-digit most e =
         no-decimal text most
         (sym (stops all_decimal (λ c t. is_digit c) (λ c t. refl) text i 0 left.0 h refl e))
 
-    pub next-too-much : (most : ℕ) → most < next → Nothing ≡ decimal_read text most
+    pub next-too-much : (most : ℕ) → most < next → None ≡ decimal_read text most
     next-too-much most k = too_much text most (omega (arith, grows next (drop (i + 1) text), next-left))
 
-  pub all_read : (most : ℕ) → 1 ≤ length text → length text ≤ i → value ≤ most → Number value ≡ decimal_read text most
+  pub all_read : (most : ℕ) → 1 ≤ length text → length text ≤ i → value ≤ most → Some value ≡ decimal_read text most
   all_read most some h few =
       let e : value ≡ value_from 0 text = nothing_left (value_from value) text i left.1 h in
       rw e (a-decimal text most some (sym (nothing_left all_decimal text i left.0 h)) (omega arith))
@@ -74,11 +74,11 @@ module _ (text : List ℕ) (value i : ℕ) (left : Left text value i) where
 -- ---- by what the answer is
 
 module _ (text : List ℕ) (most : ℕ) where
-  pub told-nothing : decimal_read text most ≡ Nothing → is_decimal text most ≡ false
+  pub told-nothing : decimal_read text most ≡ None → is_decimal text most ≡ false
   unfolding decimal_read
   told-nothing = cases (is_decimal text most) (λ p. rw p (λ e. let z : ◌≡◌ {A = ℕ} 0 1 = cc in absurd (omega arith))) (λ p e. p)
 
-  pub told-number : {n : ℕ} → decimal_read text most ≡ Number n → (is_decimal text most ≡ true) × (n ≡ value_from 0 text) × (n ≤ most)
+  pub told-number : {n : ℕ} → decimal_read text most ≡ Some n → (is_decimal text most ≡ true) × (n ≡ value_from 0 text) × (n ≤ most)
   unfolding decimal_read
   told-number {n} =
       cases (is_decimal text most)

@@ -1,5 +1,5 @@
 -- The lines of a rehearsal. Quotations are of `docs/REHEARSAL.md`.
-use Rattle.std.specs.Prelude.{ℕ, ◌+◌, ◌*◌, ◌-◌, ◌/◌, Bool, true, ◌&&◌, cond, List, [], ◌∷◌, ◌++◌, leb, eqb, length, get_or, take, drop}
+use Rattle.std.specs.Prelude.{ℕ, ◌+◌, ◌*◌, ◌-◌, ◌/◌, Bool, true, ◌&&◌, cond, Option, Some, None, List, [], ◌∷◌, ◌++◌, leb, eqb, length, get_or, take, drop}
 use Rattle.octets.specs.Lengths.{is_length}
 use Rattle.octets.specs.Parts.{same, write}
 use Rattle.hexadecimal.specs.Hex.{is_hexadecimal, octets_of}
@@ -7,8 +7,6 @@ use Rattle.line_fields.specs.Lines.{decimal_of}
 use Rattle.log_lines.specs.Lines.{is_passed, is_opening, socket_in, id_in}
 use Rattle.rehearsal_lines.specs.declared.Line.{Line}
 use Rattle.rehearsal_lines.specs.declared.Line.TheVariants.{Module, Channel, Passed, Other}
-use Rattle.rehearsal_lines.specs.declared.decimals.Decimal.{Decimal}
-use Rattle.rehearsal_lines.specs.declared.decimals.Decimal.TheVariants as D
 
 -- ---- the channel
 
@@ -28,8 +26,8 @@ value_from v (c ∷ t) = value_from (v * 10 + (c - 48)) t
 abbrev pub is_decimal : List ℕ → ℕ → Bool
 is_decimal text most = leb 1 (length text) && (all_decimal text && leb (value_from 0 text) most)
 
-unfoldable pub decimal_read : List ℕ → ℕ → Decimal
-decimal_read text most = cond (is_decimal text most) (D.Number (value_from 0 text)) D.Nothing
+unfoldable pub decimal_read : List ℕ → ℕ → Option ℕ
+decimal_read text most = cond (is_decimal text most) (Some (value_from 0 text)) None
 
 -- what stands before the first space, and what stands behind it
 abbrev pub field : List ℕ → List ℕ

@@ -9,8 +9,6 @@ ghost use Rattle.std.specs.Prelude.{◌≡◌};
 ghost use Rattle.log_lines.specs.Lines.{is_passed};
 ghost use Rattle.rehearsal_lines.specs.Lines.{module_of, module_room, line_of, room_after};
 
-use hexadecimal::Decoded;
-use log_lines::Opening;
 use octets::LONGEST_MESSAGE;
 use transactions::Socket;
 pub use writing::write_refused;
@@ -43,31 +41,26 @@ fn read_module(line: &[u8], room: &mut [u8]) -> Line
     ensures { (result ≡ module_of line.now room.old)
         × (room.new ≡ module_room line.now room.old) }
 {
-    if line.len() < 13 {
+    if line.len() < 13 || LONGEST < line.len() || line[10] != b' ' {
         return Line::Other;
     }
-    if LONGEST < line.len() {
-        return Line::Other;
-    }
-    if line[10] != b' ' {
-        return Line::Other;
-    }
-    let Opening::Opens { socket, id } = log_lines::read_opening(&line[..10]) else {
+    let Some(opening) = log_lines::read_opening(&line[..10]) else {
         return Line::Other;
     };
-    let Decoded::Octets(length) = hexadecimal::decode(&line[11..], room) else {
+    let Ok(length) = hexadecimal::decode(&line[11..], room) else {
         return Line::Other;
     };
-    Line::Module { socket, id, length }
+    Line::Module {
+        socket: opening.socket,
+        id: opening.id,
+        length,
+    }
 }
 
 fn is_passed(line: &[u8]) -> bool
     ensures { result ≡ is_passed line.now }
 {
-    if line.len() == 0 {
-        return true;
-    }
-    line[0] == b'#'
+    matches!(line, [] | [b'#', ..])
 }
 
 // Reads a line of any length and content. A module's message goes to the room; where the line is none, or its message is longer than the room,
@@ -79,8 +72,8 @@ pub fn read_line(line: &[u8], room: &mut [u8]) -> Line
     if is_passed(line) {
         return Line::Passed;
     }
-    if octet_parts::same_part(line, 0, b"channel ", 0, 8) {
-        return settings::read_settings(&line[8..]);
+    match line.strip_prefix(b"channel ") {
+        Some(settings) => settings::read_settings(settings),
+        None => read_module(line, room),
     }
-    read_module(line, room)
 }

@@ -1,27 +1,27 @@
 // The numbers of the channel's line.
-ghost use Rattle.std.specs.Prelude.{◌≡◌, ◌≤◌, length};
+ghost use Rattle.std.specs.Prelude.{◌≡◌, ◌≤◌, eqb, length, position};
 ghost use Rattle.rehearsal_lines.specs.Lines.{field, rates_of, settings_of};
 
 use super::Line;
-use super::decimals::{Decimal, read_decimal};
+use super::decimals::read_decimal;
 
 // The most that a seed and a rate may be.
 const MOST_SEED: u32 = 4294967295;
 
 const MOST_RATE: u32 = 100;
 
+// The place of the first space.
+fn first_space(text: &[u8]) -> Option<usize>
+    ensures { result ≡ position (λ c. eqb c 32) text.now }
+{
+    text.iter().position(|character| *character == b' ')
+}
+
 // How many characters stand before the first space.
 fn field_length(text: &[u8]) -> usize
     ensures { (result ≡ length (field text.now)) × (result ≤ length text.now) }
 {
-    let mut i = 0;
-    while i < text.len() {
-        if text[i] == b' ' {
-            return i;
-        }
-        i += 1;
-    }
-    i
+    first_space(text).unwrap_or(text.len())
 }
 
 // The two rates, behind the seed.
@@ -29,13 +29,13 @@ fn read_rates(seed: u32, rates: &[u8]) -> Line
     ensures { result ≡ rates_of seed rates.now }
 {
     let end = field_length(rates);
-    let Decimal::Number(lost) = read_decimal(&rates[..end], MOST_RATE) else {
+    let Some(lost) = read_decimal(&rates[..end], MOST_RATE) else {
         return Line::Other;
     };
     if rates.len() <= end {
         return Line::Other;
     }
-    let Decimal::Number(repeated) = read_decimal(&rates[end + 1..], MOST_RATE) else {
+    let Some(repeated) = read_decimal(&rates[end + 1..], MOST_RATE) else {
         return Line::Other;
     };
     Line::Channel {
@@ -50,7 +50,7 @@ pub fn read_settings(settings: &[u8]) -> Line
     ensures { result ≡ settings_of settings.now }
 {
     let end = field_length(settings);
-    let Decimal::Number(seed) = read_decimal(&settings[..end], MOST_SEED) else {
+    let Some(seed) = read_decimal(&settings[..end], MOST_SEED) else {
         return Line::Other;
     };
     if settings.len() <= end {

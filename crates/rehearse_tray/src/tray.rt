@@ -1,110 +1,86 @@
-// The tray of a rehearsal: the station's records, and the hosts of both ends at each socket.
-use super::given::Module;
-use lines::Streams;
+// The tray of a rehearsal: the station's records, the hosts of both ends at each socket, the channel between them, and the station's log.
+use super::given::{Given, Module};
+use super::log::Log;
 use links::Link;
 use lossy_channel::Channel;
+use octets::LONGEST_MESSAGE;
 use rehearsal_hosts::{DeviceHost, StationEnd, StationHost, new_device, new_station};
+use station::AREA_LENGTH;
+use transactions::Socket;
 
+// A socket that has a module: its Link ID, and what the hosts of both ends keep.
 #[derive(Clone, Copy)]
+pub struct Served {
+    pub id: u32,
+    pub station: StationHost,
+    pub device: DeviceHost,
+}
+
+#[derive(Drop)]
 pub struct Tray {
     pub links: [Link; 8],
-    pub stations: [StationHost; 8],
-    pub devices: [DeviceHost; 8],
+    // Each at its socket's place, as are the messages of the modules, and the areas of the station and of the devices.
+    pub served: [Option<Served>; 8],
+    pub messages: [u8; AREA_LENGTH],
+    pub area: [u8; AREA_LENGTH],
+    pub areas: [u8; AREA_LENGTH],
     pub channel: Channel,
-    pub streams: Streams,
+    pub log: Log,
 }
 
-// A device at each socket; one without a message where there is no module.
-fn new_devices(modules: [Module; 8]) -> [DeviceHost; 8] {
-    let nobody = new_device(0);
-    let mut devices = [nobody; 8];
-    let mut place: usize = 0;
-    while place < 8 {
-        let module = modules[place];
-        devices[place] = new_device(module.length);
-        place += 1;
-    }
-    devices
-}
-
-// No link, and nothing is due.
-pub fn new_tray(modules: [Module; 8], channel: Channel, streams: Streams) -> Tray {
-    let station = new_station();
-    Tray {
-        links: link_records::blank_links(),
-        stations: [station; 8],
-        devices: new_devices(modules),
-        channel: channel,
-        streams: streams,
+// A socket on which nothing is due.
+fn begin(module: Module) -> Served {
+    Served {
+        id: module.id,
+        station: new_station(),
+        device: new_device(module.length),
     }
 }
 
-// The station at a socket's place.
-pub fn station_at(tray: Tray, place: usize) -> StationEnd {
-    let links = tray.links;
-    let stations = tray.stations;
-    if place < 8 {
-        return StationEnd {
-            links: links,
-            host: stations[place],
-        };
+impl Tray {
+    // No link, and nothing is due.
+    pub fn new(given: Given, messages: [u8; AREA_LENGTH], log: Log) -> Tray {
+        Tray {
+            links: link_records::blank_links(),
+            served: given.modules.map(|module| module.map(begin)),
+            messages,
+            area: [0; AREA_LENGTH],
+            areas: [0; AREA_LENGTH],
+            // Where no line gave a channel, none is lost and none comes twice.
+            channel: given.channel.unwrap_or(lossy_channel::new(0, 0, 0)),
+            log,
+        }
     }
-    StationEnd {
-        links: links,
-        host: new_station(),
-    }
-}
 
-// The device at a socket's place.
-pub fn device_at(tray: Tray, place: usize) -> DeviceHost {
-    let devices = tray.devices;
-    if place < 8 {
-        return devices[place];
+    // What is served at a socket, if it has a module.
+    pub fn served_at(&self, socket: Socket) -> Option<Served> {
+        let place = socket.place();
+        if place < 8 { self.served[place] } else { None }
     }
-    new_device(0)
-}
 
-pub fn with_station(tray: Tray, place: usize, end: StationEnd) -> Tray {
-    let links = end.links;
-    let host = end.host;
-    let mut stations = tray.stations;
-    if place < 8 {
-        stations[place] = host;
+    pub fn put_served(&mut self, socket: Socket, served: Served) {
+        let place = socket.place();
+        if place < 8 {
+            self.served[place] = Some(served);
+        }
     }
-    let devices = tray.devices;
-    let channel = tray.channel;
-    let streams = tray.streams;
-    Tray {
-        links: links,
-        stations: stations,
-        devices: devices,
-        channel: channel,
-        streams: streams,
-    }
-}
 
-pub fn with_device(tray: Tray, place: usize, host: DeviceHost) -> Tray {
-    let links = tray.links;
-    let stations = tray.stations;
-    let mut devices = tray.devices;
-    if place < 8 {
-        devices[place] = host;
+    // The station at a socket is so after a call.
+    pub fn put_station(&mut self, socket: Socket, served: Served, end: StationEnd) {
+        let StationEnd { links, host } = end;
+        self.links = links;
+        self.put_served(
+            socket,
+            Served {
+                station: host,
+                ..served
+            },
+        );
     }
-    let channel = tray.channel;
-    let streams = tray.streams;
-    Tray {
-        links: links,
-        stations: stations,
-        devices: devices,
-        channel: channel,
-        streams: streams,
-    }
-}
 
-// With how far the channel and the log have come.
-pub fn with_progress(tray: Tray, channel: Channel, streams: Streams) -> Tray {
-    let mut after = tray;
-    after.channel = channel;
-    after.streams = streams;
-    after
+    // The message of the module at a socket.
+    pub fn message_at(&self, socket: Socket, length: usize) -> Option<&[u8]> {
+        let mut messages = self.messages.chunks_exact(LONGEST_MESSAGE);
+        messages.nth(socket.place())?.get(..length)
+    }
 }

@@ -1,13 +1,17 @@
 // The turns of the ends: an end sends one frame, if it has one to send, and the channel brings it to the other end, or does not.
-ghost use Rattle.std.specs.Prelude.{◌≤◌, length};
-
-use super::ends::Logged;
-use super::given::Module;
-use super::tray::Tray;
-use super::{ends, log, tray};
+use super::tray::{Served, Tray};
+use lossy_channel::Fate;
 use octets::{LONGEST_MESSAGE, Written};
 use rehearsal_hosts::{INVITE_LENGTH, Sending, StationEnd, TIMED_OUT};
 use transactions::Socket;
+
+// The own UUID of the device at a socket.
+fn uuid_of(socket: Socket) -> [u8; 16] {
+    [
+        0x70, 0xCF, 0x7C, 0x97, 0x32, 0xA3, 0x45, 0xB6, 0x91, 0x49, 0x48, 0x10, 0xD2, 0xE9, 0xCB,
+        socket.0,
+    ]
+}
 
 // The octets of a frame that is to be sent.
 fn write_sending(
@@ -18,8 +22,7 @@ fn write_sending(
     frame: &mut [u8],
 ) -> Written {
     match sending {
-        Sending::Nothing => Written::Count(0),
-        Sending::Open => control_writing::write_open(id, &ends::uuid_of(socket), frame),
+        Sending::Open => control_writing::write_open(id, &uuid_of(socket), frame),
         Sending::Ack => control_writing::write_ack(id, frame),
         Sending::Close { reason } => control_writing::write_close(id, reason, frame),
         Sending::Acknowledgement(number) => {
@@ -31,174 +34,159 @@ fn write_sending(
     }
 }
 
-// How many octets were written to a frame.
-fn count_of(answer: Written, frame: &[u8]) -> usize
-    ensures { result ≤ length frame.now }
-{
-    let Written::Count(n) = answer else {
-        return 0;
-    };
-    if n <= frame.len() { n } else { 0 }
-}
-
-// The frame that is to be sent; how many octets it has.
-fn frame_of(sending: Sending, id: u32, socket: Socket, message: &[u8], frame: &mut [u8]) -> usize
-    ensures { result ≤ length frame.new }
-{
-    let answer = write_sending(sending, id, socket, message, frame);
-    count_of(answer, frame)
-}
-
-// Opens a socket that has a module.
-pub fn open_socket<P: Print + Eprint>(
-    rt: &P,
-    before: Tray,
-    socket: Socket,
-    module: Module,
-    output: &mut [u8],
-) -> Tray {
-    if module.length == 0 {
-        return before;
-    }
-    let end = tray::station_at(before, socket.place());
-    let opened = rehearsal_hosts::open_link(end, socket, module.id);
-    let streams = log::put_opening(rt, before.streams, socket, module.id, output);
-    let on = tray::with_progress(before, before.channel, streams);
-    tray::with_station(on, socket.place(), opened)
-}
-
-// A frame that the station sends.
-fn send_to_device<P: Print + Eprint>(
-    rt: &P,
-    before: Tray,
-    socket: Socket,
-    areas: &mut [u8],
-    frame: &[u8],
-    output: &mut [u8],
-) -> Tray {
-    let place = socket.place();
-    let streams = log::put_sent(rt, before.streams, frame, output);
-    let carried = lossy_channel::carry(before.channel);
-    let fate = carried.fate;
-    let host = ends::to_device(tray::device_at(before, place), fate, socket, areas, frame);
-    let heard = tray::with_device(before, place, host);
-    tray::with_progress(heard, carried.channel, streams)
-}
-
-// The station sends what it has to send at a socket.
-fn station_sends<P: Print + Eprint>(
-    rt: &P,
-    before: Tray,
-    socket: Socket,
+// The frame that is to be sent, in the room that is lent.
+fn frame_of<'a>(
+    sending: Sending,
     id: u32,
-    end: StationEnd,
-    areas: &mut [u8],
-    output: &mut [u8],
-) -> Tray {
-    let next = rehearsal_hosts::station_next(end, socket);
-    let after = tray::with_station(before, socket.place(), next.end);
-    // An Invite, for no attention.
-    let invite = [0u8; INVITE_LENGTH];
-    let mut frame = [0u8; 29];
-    let sending = next.sending;
-    let count = frame_of(sending, id, socket, &invite, &mut frame);
-    if count == 0 {
-        return after;
-    }
-    send_to_device(rt, after, socket, areas, &frame[..count], output)
-}
-
-// The station's turn at a socket.
-pub fn station_turn<P: Print + Eprint>(
-    rt: &P,
-    before: Tray,
     socket: Socket,
-    id: u32,
-    areas: &mut [u8],
-    output: &mut [u8],
-) -> Tray {
-    let end = tray::station_at(before, socket.place());
-    let closed = rehearsal_hosts::close_answered(end, socket);
-    station_sends(rt, before, socket, id, closed, areas, output)
-}
-
-// The station gives a socket up: it closes the link, and sends a Close that is due.
-pub fn give_up<P: Print + Eprint>(
-    rt: &P,
-    before: Tray,
-    socket: Socket,
-    id: u32,
-    areas: &mut [u8],
-    output: &mut [u8],
-) -> Tray {
-    let end = tray::station_at(before, socket.place());
-    let closed = rehearsal_hosts::close_link(end, socket, TIMED_OUT);
-    station_sends(rt, before, socket, id, closed, areas, output)
-}
-
-// A frame that a device sends.
-fn send_to_station<P: Print + Eprint>(
-    rt: &P,
-    before: Tray,
-    socket: Socket,
-    area: &mut [u8],
-    frame: &[u8],
-    output: &mut [u8],
-) -> Tray {
-    let place = socket.place();
-    let carried = lossy_channel::carry(before.channel);
-    let fate = carried.fate;
-    let streams = before.streams;
-    let logged = Logged {
-        end: tray::station_at(before, place),
-        streams: streams,
-    };
-    let heard = ends::to_station(rt, logged, fate, socket, area, frame, output);
-    let after = tray::with_station(before, place, heard.end);
-    tray::with_progress(after, carried.channel, heard.streams)
-}
-
-// A device sends what it has to send, of its message or else.
-fn device_sends<P: Print + Eprint>(
-    rt: &P,
-    before: Tray,
-    socket: Socket,
-    id: u32,
     message: &[u8],
-    area: &mut [u8],
-    output: &mut [u8],
-) -> Tray {
-    let place = socket.place();
-    let next = rehearsal_hosts::device_next(tray::device_at(before, place));
-    let after = tray::with_device(before, place, next.host);
-    let mut frame = [0u8; 29];
-    let sending = next.sending;
-    let count = frame_of(sending, id, socket, message, &mut frame);
-    if count == 0 {
-        return after;
+    room: &'a mut [u8],
+) -> Option<&'a [u8]> {
+    match write_sending(sending, id, socket, message, room) {
+        Ok(n) => room.get(..n),
+        // Never: the hosts send segments that their messages have, and there is room for any frame.
+        Err(_) => None,
     }
-    send_to_station(rt, after, socket, area, &frame[..count], output)
 }
 
-// The turn of the device at a socket. The messages stand at their sockets' places.
-pub fn device_turn<P: Print + Eprint>(
-    rt: &P,
-    before: Tray,
-    socket: Socket,
-    module: Module,
-    area: &mut [u8],
-    messages: &[u8],
-    output: &mut [u8],
-) -> Tray {
-    let from = LONGEST_MESSAGE * socket.place();
-    let length = module.length;
-    // Never: there is room for the longest message at each socket.
-    if messages.len() < from {
-        return before;
+impl Tray {
+    // A frame goes through the channel: how often it comes out.
+    fn carry(&mut self) -> u8 {
+        let carried = lossy_channel::carry(self.channel);
+        self.channel = carried.channel;
+        match carried.fate {
+            Fate::Lost => 0,
+            Fate::Once => 1,
+            Fate::Twice => 2,
+        }
     }
-    if messages.len() - from < length {
-        return before;
+
+    // Opens the socket, if it has a module.
+    pub fn open_socket<P: Print + Eprint>(&mut self, rt: &P, socket: Socket) {
+        let Some(served) = self.served_at(socket) else {
+            return;
+        };
+        let id = served.id;
+        self.log
+            .put(rt, |room| log_lines::write_opening(socket, id, room));
+        let end = StationEnd {
+            links: self.links,
+            host: served.station,
+        };
+        self.put_station(socket, served, rehearsal_hosts::open_link(end, socket, id));
     }
-    let message = &messages[from..from + length];
-    device_sends(rt, before, socket, module.id, message, area, output)
+
+    // The device at a socket hears a frame.
+    fn device_hears(&mut self, socket: Socket, frame: &[u8]) {
+        let Some(served) = self.served_at(socket) else {
+            return;
+        };
+        let mut areas = self.areas.chunks_exact_mut(LONGEST_MESSAGE);
+        // Never: there is an area for each socket.
+        let Some(area) = areas.nth(socket.place()) else {
+            return;
+        };
+        let device = rehearsal_hosts::device_hears(served.device, &uuid_of(socket), area, frame);
+        self.put_served(socket, Served { device, ..served });
+    }
+
+    // A frame that the station sends.
+    fn send_to_device<P: Print + Eprint>(&mut self, rt: &P, socket: Socket, frame: &[u8]) {
+        self.log.put(rt, |room| log_lines::write_sent(frame, room));
+        let times = self.carry();
+        for _ in 0..times {
+            self.device_hears(socket, frame);
+        }
+    }
+
+    // The station makes a call at a socket, and sends what it then has to send.
+    fn station_sends<P: Print + Eprint, F: FnOnce(StationEnd) -> StationEnd>(
+        &mut self,
+        rt: &P,
+        socket: Socket,
+        call: F,
+    )
+        requires { F.IsAlwaysCallable call }
+    {
+        let Some(served) = self.served_at(socket) else {
+            return;
+        };
+        let end = call(StationEnd {
+            links: self.links,
+            host: served.station,
+        });
+        let next = rehearsal_hosts::station_next(end, socket);
+        self.put_station(socket, served, next.end);
+        let Some(sending) = next.sending else {
+            return;
+        };
+        // An Invite, for no attention.
+        let invite = [0u8; INVITE_LENGTH];
+        let mut room = [0u8; 29];
+        if let Some(frame) = frame_of(sending, served.id, socket, &invite, &mut room) {
+            self.send_to_device(rt, socket, frame);
+        }
+    }
+
+    // The station's turn at a socket.
+    pub fn station_turn<P: Print + Eprint>(&mut self, rt: &P, socket: Socket) {
+        self.station_sends(rt, socket, |end| {
+            rehearsal_hosts::close_answered(end, socket)
+        });
+    }
+
+    // The station gives a socket up: it closes the link, and sends a Close that is due.
+    pub fn give_up<P: Print + Eprint>(&mut self, rt: &P, socket: Socket) {
+        self.station_sends(rt, socket, |end| {
+            rehearsal_hosts::close_link(end, socket, TIMED_OUT)
+        });
+    }
+
+    // The station hears a frame of the module at a socket, and has it in its log.
+    fn station_hears<P: Print + Eprint>(&mut self, rt: &P, socket: Socket, frame: &[u8]) {
+        let Some(served) = self.served_at(socket) else {
+            return;
+        };
+        self.log.put(rt, |room| log_lines::write_heard(frame, room));
+        let end = StationEnd {
+            links: self.links,
+            host: served.station,
+        };
+        let heard = rehearsal_hosts::station_hears(end, socket, &mut self.area, frame);
+        self.put_station(socket, served, heard);
+    }
+
+    // A frame that a device sends.
+    fn send_to_station<P: Print + Eprint>(&mut self, rt: &P, socket: Socket, frame: &[u8]) {
+        let times = self.carry();
+        for _ in 0..times {
+            self.station_hears(rt, socket, frame);
+        }
+    }
+
+    // The turn of the device at a socket.
+    pub fn device_turn<P: Print + Eprint>(&mut self, rt: &P, socket: Socket) {
+        let Some(served) = self.served_at(socket) else {
+            return;
+        };
+        let next = rehearsal_hosts::device_next(served.device);
+        self.put_served(
+            socket,
+            Served {
+                device: next.end,
+                ..served
+            },
+        );
+        let Some(sending) = next.sending else {
+            return;
+        };
+        // Never: there is room for the longest message at each socket.
+        let Some(message) = self.message_at(socket, served.device.length) else {
+            return;
+        };
+        let mut room = [0u8; 29];
+        if let Some(frame) = frame_of(sending, served.id, socket, message, &mut room) {
+            self.send_to_station(rt, socket, frame);
+        }
+    }
 }

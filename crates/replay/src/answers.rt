@@ -1,100 +1,84 @@
 // The answer to a line, field by field as docs/REPLAY.md lists them: two digits are an octet.
+use links::Refusal;
 use octets::Written;
 use script::Outcome;
 
 // Enough for every answer: of a storage at most 4,000 octets are shown, and no frame or piece that is written has more than 514.
 const MOST: usize = 4096;
 
+// The longest answer's line: a letter, its octets in two digits each, and a newline.
+pub(super) const LONGEST: usize = 2 * MOST + 2;
+
 #[derive(Clone, Copy)]
 pub(super) struct Answer {
-    // The first character: a capital letter, the `O` of `OK`, `?`, or `!` with the refusal's number as the octet.
-    pub first: u8,
-    // How many octets there are.
-    pub count: u16,
-    pub octets: [u8; MOST],
+    // What the line came to. The count in `Values` says how many of the octets there are, which `script` writes; an `ArrayVec` would hold it twice.
+    outcome: Outcome,
+    octets: [u8; MOST],
 }
 
-// An answer of its first character, behind which fields are put.
-pub(super) fn letter(first: u8) -> Answer {
+fn answer_of(outcome: Outcome) -> Answer {
     Answer {
-        first: first,
-        count: 0,
+        outcome,
         octets: [0u8; MOST],
     }
 }
 
+// An answer of its first character, behind which fields are put.
+pub(super) fn letter(letter: u8) -> Answer {
+    answer_of(Outcome::Values { letter, count: 0 })
+}
+
 pub(super) fn done() -> Answer {
-    letter(b'O')
+    answer_of(Outcome::Done)
 }
 
 pub(super) fn malformed() -> Answer {
-    letter(b'?')
+    answer_of(Outcome::Malformed)
 }
 
 pub(super) fn refused(number: u8) -> Answer {
-    letter(b'!').octet(number)
+    answer_of(Outcome::Refused(number))
+}
+
+// The refusal of a wrong argument, which has one number wherever it is told.
+pub(super) fn wrong_argument() -> Answer {
+    refused(refusal_numbers::of_station(Refusal::WrongArgument))
 }
 
 impl Answer {
     // A field of 2 digits.
     pub(super) fn octet(self, number: u8) -> Answer {
-        let at = self.count as usize;
-        let mut after = self;
-        if at < MOST {
-            let mut octets = self.octets;
-            octets[at] = number;
-            after.octets = octets;
-            after.count = self.count + 1;
-        }
-        after
+        self.part(&[number], 0, 1)
     }
 
     pub(super) fn flag(self, flag: bool) -> Answer {
-        if flag { self.octet(1) } else { self.octet(0) }
+        self.octet(u8::from(flag))
     }
 
     // A field of 4 digits.
     pub(super) fn pair(self, number: u16) -> Answer {
-        self.octet((number / 256) as u8).octet((number % 256) as u8)
+        self.part(&number.to_be_bytes(), 0, 2)
     }
 
     // A field of 8 digits.
     pub(super) fn long(self, number: u32) -> Answer {
-        self.pair((number / 65536) as u16)
-            .pair((number % 65536) as u16)
+        self.part(&number.to_be_bytes(), 0, 4)
     }
 
     // So many octets of a list, from a place on.
-    pub(super) fn part(self, source: &[u8], from: usize, count: u16) -> Answer {
-        let at = self.count as usize;
-        let end = at + (count as usize);
-        let mut after = self;
-        let mut octets = self.octets;
-        if end <= MOST {
-            octet_parts::copy(&mut octets, at, source, from, count as usize);
-            after.octets = octets;
-            after.count = end as u16;
+    pub(super) fn part(mut self, source: &[u8], from: usize, count: u16) -> Answer {
+        if let Outcome::Values { letter, count: at } = self.outcome {
+            let end = at.saturating_add(usize::from(count));
+            if end <= MOST {
+                octet_parts::copy(&mut self.octets, at, source, from, usize::from(count));
+                self.outcome = Outcome::Values { letter, count: end };
+            }
         }
-        after
-    }
-
-    pub(super) fn outcome(self) -> Outcome {
-        let first = self.first;
-        let octets = self.octets;
-        match first {
-            b'?' => Outcome::Malformed,
-            b'!' => Outcome::Refused(octets[0]),
-            b'O' => Outcome::Done,
-            _ => Outcome::Values {
-                letter: first,
-                count: self.count as usize,
-            },
-        }
+        self
     }
 
     // The answer's line.
     pub(super) fn write(self, output: &mut [u8]) -> Written {
-        let octets = self.octets;
-        script::write_outcome(self.outcome(), &octets, output)
+        script::write_outcome(self.outcome, &self.octets, output)
     }
 }

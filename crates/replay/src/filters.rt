@@ -1,105 +1,72 @@
 // The proxy filter.
 use crate::answers::{Answer, done, letter, refused};
-use filter_entries::Entry;
-use filter_messages::{FilterAnswer, FilterType};
+use filter_messages::{FilterRefusal, FilterType, Status, status_octets};
 use octets::{octet_at, read16};
-use proxy_filter::{Filter, FilterStep, PassAnswer};
+use proxy_filter::{Filter, FilterStep};
 
-// The filter after an operation, and its answer.
-#[derive(Clone, Copy)]
-pub(super) struct FilterOutcome {
-    pub filter: Filter,
-    pub answer: Answer,
-}
-
-fn keep(filter: Filter, answer: Answer) -> FilterOutcome {
-    FilterOutcome {
-        filter: filter,
-        answer: answer,
-    }
-}
-
-fn entries_of(x: &[u8]) -> [Entry; 16] {
-    let mut entries = [Entry { address: 0 }; 16];
-    let mut i = 0;
-    while i < 16 {
-        entries[i] = Entry {
-            address: read16(x, 2 + 2 * i),
-        };
-        i += 1;
+fn entries_of(x: &[u8]) -> [u16; 16] {
+    let mut entries = [0; 16];
+    for (i, entry) in entries.iter_mut().enumerate() {
+        *entry = read16(x, 2 + 2 * i);
     }
     entries
 }
 
-fn set(x: &[u8]) -> FilterOutcome {
-    let kind = if octet_at(x, 0) == 0 {
-        FilterType::AcceptList
-    } else {
-        FilterType::RejectList
-    };
-    let entries = entries_of(x);
-    let after = Filter {
-        kind: kind,
+fn set(filter: &mut Filter, x: &[u8]) -> Answer {
+    // Each octet but 0 makes a reject list.
+    let kind = FilterType::try_from(octet_at(x, 0)).unwrap_or(FilterType::RejectList);
+    *filter = Filter {
+        kind,
         count: octet_at(x, 1),
-        entries: entries,
+        entries: entries_of(x),
     };
-    keep(after, done())
-}
-
-fn put_entries(before: Answer, entries: [Entry; 16]) -> Answer {
-    let mut after = before;
-    let mut i = 0;
-    while i < 16 {
-        let entry = entries[i];
-        after = after.pair(entry.address);
-        i += 1;
-    }
-    after
+    done()
 }
 
 pub(super) fn show(filter: Filter) -> Answer {
-    let kind = filter.kind;
-    let entries = filter.entries;
-    let octet = match kind {
-        FilterType::AcceptList => 0,
-        FilterType::RejectList => 1,
-    };
-    put_entries(letter(b'F').octet(octet).octet(filter.count), entries)
+    let shown = letter(b'F').octet(filter.kind.into()).octet(filter.count);
+    filter
+        .entries
+        .iter()
+        .fold(shown, |shown, address| shown.pair(*address))
 }
 
-fn status(kind: FilterType, count: u8) -> Answer {
-    let octets = filter_messages::status_octets(kind, count);
-    letter(b'F').part(&octets, 0, 4)
-}
-
-fn answer_of(answered: FilterAnswer) -> Answer {
+fn answer_of(answered: Result<Status, FilterRefusal>) -> Answer {
     match answered {
-        FilterAnswer::Status { kind, count } => status(kind, count),
-        FilterAnswer::Refused(r) => refused(refusal_numbers::of_filter(r)),
+        Ok(status) => letter(b'F').part(&status_octets(status.kind, status.count), 0, 4),
+        Err(refusal) => refused(refusal_numbers::of_filter(refusal)),
     }
 }
 
-fn after_step(step: FilterStep) -> FilterOutcome {
-    let answered = step.answer;
-    keep(step.filter, answer_of(answered))
+fn after(filter: &mut Filter, step: FilterStep) -> Answer {
+    *filter = step.filter;
+    answer_of(step.answer)
 }
 
 fn pass(filter: Filter, address: u16) -> Answer {
-    let answered = filter.pass(address);
-    match answered {
-        PassAnswer::Passes => letter(b'P').octet(1),
-        PassAnswer::DoesNotPass => letter(b'P').octet(0),
-        PassAnswer::BadState => refused(14),
+    match filter.pass(address) {
+        Ok(passes) => letter(b'P').flag(passes),
+        Err(refusal) => refused(refusal_numbers::of_filter(refusal)),
     }
 }
 
-pub(super) fn perform(operation: u8, filter: Filter, x: &[u8]) -> FilterOutcome {
-    match operation {
-        b'S' => set(x),
-        b'D' => keep(filter, show(filter)),
-        b'N' => keep(Filter::new(), done()),
-        b'M' => after_step(filter.control(x)),
-        b'L' => after_step(filter.learn(read16(x, 0))),
-        _ => keep(filter, pass(filter, read16(x, 0))),
+// An operation by its second letter.
+pub(super) fn perform(second: u8, filter: &mut Filter, x: &[u8]) -> Answer {
+    match second {
+        b'S' => set(filter, x),
+        b'D' => show(*filter),
+        b'N' => {
+            *filter = Filter::new();
+            done()
+        }
+        b'M' => {
+            let step = filter.control(x);
+            after(filter, step)
+        }
+        b'L' => {
+            let step = filter.learn(read16(x, 0));
+            after(filter, step)
+        }
+        _ => pass(*filter, read16(x, 0)),
     }
 }

@@ -19,7 +19,6 @@ ghost use Rattle.std.specs.Prelude.{◌≤◌, length};
 
 use answers::Answer;
 use lines::Streams;
-use octets::Written;
 use operations::Held;
 use std::io::Read;
 
@@ -42,12 +41,10 @@ fn read_on<P: Print + Eprint, R: Read>(
     ensures { result.characters ≤ length line.new }
 {
     let streams = lines::next_piece(rt, reader, reading.streams, input, output);
-    let from = streams.from;
-    let to = streams.to;
-    let characters = line_buffer::hold(line, reading.characters, &input[from..to]);
+    let piece = &input[streams.from..streams.to];
     Reading {
-        streams: streams,
-        characters: characters,
+        streams,
+        characters: line_buffer::hold(line, reading.characters, piece),
     }
 }
 
@@ -58,13 +55,11 @@ fn write_answer<P: Print + Eprint>(
     answer: Answer,
     output: &mut [u8],
 ) -> Reading {
-    // The longest answer has a letter, 4,096 octets and a newline.
-    let streams = lines::make_room(rt, before, output, 8194);
-    let waiting = streams.waiting;
+    let streams = lines::make_room(rt, before, output, answers::LONGEST);
     // There is room, so that it is never refused.
-    let Written::Count(n) = answer.write(&mut output[waiting..]) else {
+    let Ok(n) = answer.write(&mut output[streams.waiting..]) else {
         return Reading {
-            streams: streams,
+            streams,
             characters: 0,
         };
     };
@@ -74,48 +69,23 @@ fn write_answer<P: Print + Eprint>(
     }
 }
 
-// How far the program has come, and what it keeps.
-#[derive(Clone, Copy)]
-struct Progress {
-    reading: Reading,
-    held: Held,
-}
-
-fn begin() -> Progress {
-    let reading = Reading {
-        streams: lines::start(),
-        characters: 0,
-    };
-    let held = operations::at_start();
-    Progress {
-        reading: reading,
-        held: held,
-    }
-}
-
 // Reads on, and answers the line if it is whole.
 fn take_turn<P: Print + Eprint, R: Read>(
     rt: &P,
     reader: &mut R,
-    progress: Progress,
+    reading: Reading,
+    held: &mut Held,
     input: &mut [u8],
     line: &mut [u8],
     area: &mut [u8],
     output: &mut [u8],
-) -> Progress {
-    let read = read_on(rt, reader, progress.reading, input, line, output);
-    let characters = read.characters;
-    let mut held = progress.held;
-    let mut reading = read;
-    if lines::is_whole(read.streams, characters) {
-        let step = operations::perform_line(held, &line[0..characters], area);
-        held = step.held;
-        reading = write_answer(rt, read.streams, step.answer, output);
+) -> Reading {
+    let read = read_on(rt, reader, reading, input, line, output);
+    if lines::is_whole(read.streams, read.characters) {
+        let answer = held.perform_line(&line[..read.characters], area);
+        return write_answer(rt, read.streams, answer, output);
     }
-    Progress {
-        reading: reading,
-        held: held,
-    }
+    read
 }
 
 fn run<P: Print + Eprint, R: Read>(
@@ -126,20 +96,18 @@ fn run<P: Print + Eprint, R: Read>(
     area: &mut [u8],
     output: &mut [u8],
 ) {
-    let mut progress = begin();
-    // Nothing says that the input ends, so the turns are counted down from a number that no run uses up.
-    let mut turns = u64::MAX;
-    while turns > 0 {
-        progress = take_turn(rt, reader, progress, input, line, area, output);
-        let reading = progress.reading;
-        let streams = reading.streams;
-        if streams.found {
-            turns -= 1;
-        } else {
-            turns = 0;
+    let mut held = Held::new();
+    let mut reading = Reading {
+        streams: lines::start(),
+        characters: 0,
+    };
+    // Nothing says that the input ends, so the turns are counted, up to a number that no run reaches.
+    for _ in 0..u64::MAX {
+        reading = take_turn(rt, reader, reading, &mut held, input, line, area, output);
+        if !reading.streams.found {
+            break;
         }
     }
-    let reading = progress.reading;
     lines::flush(rt, reading.streams, output);
 }
 
@@ -147,9 +115,9 @@ fn main(rt: HostRuntime) {
     let mut input = io::large_buffer();
     let mut output = io::large_buffer();
     // A line with one character more than the longest.
-    let mut line = [0u8; 8193];
+    let mut line = [0u8; script::LONGEST + 1];
     // Storage A, the station's area, zero at start.
-    let mut area = [0u8; 0x2E00];
+    let mut area = [0u8; storages::AREA];
     run(
         &rt,
         &mut rt.stdin(),

@@ -1,27 +1,31 @@
 // Provisioning messages read whole, and the view over a message.
 use crate::answers::{Answer, done, letter, malformed, refused};
 use crate::shapes::behind;
-use message_view::{FieldRead, Wanted};
+use crate::storages::BUFFER;
+use arrayvec::ArrayVec;
+use message_view::{FieldRead, PastEnd, Wanted};
 use octets::{octet_at, read16};
-use provisioning::{Capabilities, Choice, Field, Message};
+use provisioning::{Capabilities, Choice, Field, Message, MessageRefusal};
 
 fn put_capabilities(before: Answer, c: Capabilities) -> Answer {
-    let mut after = before.octet(c.elements);
-    after = after.pair(c.algorithms);
-    after = after.octet(c.public_key_type);
-    after = after.octet(c.static_oob_type);
-    after = after.octet(c.output_oob_size);
-    after = after.pair(c.output_oob_action);
-    after = after.octet(c.input_oob_size);
-    after.pair(c.input_oob_action)
+    before
+        .octet(c.elements)
+        .pair(c.algorithms)
+        .octet(c.public_key_type)
+        .octet(c.static_oob_type)
+        .octet(c.output_oob_size)
+        .pair(c.output_oob_action)
+        .octet(c.input_oob_size)
+        .pair(c.input_oob_action)
 }
 
 fn put_choice(before: Answer, c: Choice) -> Answer {
-    let mut after = before.octet(c.algorithm);
-    after = after.octet(c.public_key);
-    after = after.octet(c.method);
-    after = after.octet(c.action);
-    after.octet(c.size)
+    before
+        .octet(c.algorithm)
+        .octet(c.public_key)
+        .octet(c.method)
+        .octet(c.action)
+        .octet(c.size)
 }
 
 // A long field's place and length.
@@ -46,94 +50,72 @@ fn put_message(before: Answer, message: Message) -> Answer {
         Message::Random { random } => put_field(before, random),
         Message::Data { encrypted, mic } => put_fields(before, encrypted, mic),
         Message::Failed { code } => before.octet(code),
-        Message::Refused(r) => refused(refusal_numbers::of_message(r)),
         // Input Complete and Complete have none.
         _ => before,
     }
 }
 
 pub(super) fn read(x: &[u8]) -> Answer {
-    let message = provisioning::read_message(x);
-    put_message(letter(b'M').octet(octet_at(x, 0)), message)
-}
-
-// The view: how many octets it is over, which stand at the start of those here, and the place reached.
-#[derive(Clone, Copy)]
-pub(super) struct Viewed {
-    pub length: usize,
-    pub octets: [u8; 0x0600],
-    pub place: usize,
-}
-
-pub(super) fn no_view() -> Viewed {
-    Viewed {
-        length: 0,
-        octets: [0u8; 0x0600],
-        place: 0,
+    match provisioning::read_message(x) {
+        Ok(message) => put_message(letter(b'M').octet(octet_at(x, 0)), message),
+        Err(refusal) => refused(refusal_numbers::of_message(refusal)),
     }
 }
 
-// The view after an operation, and its answer.
-#[derive(Clone, Copy)]
-pub(super) struct ViewStep {
-    pub viewed: Viewed,
-    pub answer: Answer,
-}
-
-fn keep(viewed: Viewed, answer: Answer) -> ViewStep {
-    ViewStep {
-        viewed: viewed,
-        answer: answer,
-    }
-}
-
-fn set_view(viewed: Viewed, x: &[u8]) -> ViewStep {
-    let message = behind(x, 2);
-    let mut octets = [0u8; 0x0600];
-    if octet_parts::copy(&mut octets, 0, message, 0, message.len()) {
-        let after = Viewed {
-            length: message.len(),
-            octets: octets,
-            place: read16(x, 0) as usize,
-        };
-        return keep(after, done());
-    }
-    keep(viewed, malformed())
-}
-
-pub(super) fn show_view(viewed: Viewed) -> Answer {
-    letter(b'V').pair((viewed.place % 65536) as u16)
-}
-
-fn field_answer(field: FieldRead) -> Answer {
+fn field_answer(field: Result<FieldRead, PastEnd>) -> Answer {
     match field {
-        FieldRead::Octet(n) => letter(b'N').octet(n),
-        FieldRead::Pair(n) => letter(b'N').pair(n),
-        FieldRead::Long(f) => put_field(letter(b'P'), f),
-        FieldRead::PastEnd => refused(44),
+        Ok(FieldRead::Octet(n)) => letter(b'N').octet(n),
+        Ok(FieldRead::Pair(n)) => letter(b'N').pair(n),
+        Ok(FieldRead::Long(f)) => put_field(letter(b'P'), f),
+        Err(PastEnd) => refused(refusal_numbers::of_message(MessageRefusal::WrongLength)),
     }
 }
 
-fn take(viewed: Viewed, wanted: Wanted) -> ViewStep {
-    let length = viewed.length;
-    let held = viewed.octets;
-    let octets = &held[..];
-    if octets.len() < length {
-        return keep(viewed, malformed());
-    }
-    let step = message_view::take_at(&octets[0..length], viewed.place, wanted);
-    let field = step.field;
-    let mut after = viewed;
-    after.place = step.next;
-    keep(after, field_answer(field))
+// The view: the octets that it is over, and the place reached.
+#[derive(Drop)]
+pub(super) struct Viewed {
+    octets: ArrayVec<u8, BUFFER>,
+    place: usize,
 }
 
-pub(super) fn perform(operation: u8, viewed: Viewed, x: &[u8]) -> ViewStep {
-    match operation {
-        b'S' => set_view(viewed, x),
-        b'D' => keep(viewed, show_view(viewed)),
-        b'B' => take(viewed, Wanted::Octet),
-        b'W' => take(viewed, Wanted::Pair),
-        _ => take(viewed, Wanted::Long(read16(x, 0) as usize)),
+impl Viewed {
+    // Of no octets, at place 0.
+    pub(super) fn new() -> Viewed {
+        Viewed {
+            octets: ArrayVec::new(),
+            place: 0,
+        }
+    }
+
+    fn set(&mut self, x: &[u8]) -> Answer {
+        let Ok(octets) = ArrayVec::try_from(behind(x, 2)) else {
+            return malformed();
+        };
+        *self = Viewed {
+            octets,
+            place: usize::from(read16(x, 0)),
+        };
+        done()
+    }
+
+    pub(super) fn show(&self) -> Answer {
+        letter(b'V').pair((self.place % 65536) as u16)
+    }
+
+    fn take(&mut self, wanted: Wanted) -> Answer {
+        let step = message_view::take_at(self.octets.as_slice(), self.place, wanted);
+        self.place = step.next;
+        field_answer(step.field)
+    }
+
+    // An operation by its second letter.
+    pub(super) fn perform(&mut self, second: u8, x: &[u8]) -> Answer {
+        match second {
+            b'S' => self.set(x),
+            b'D' => self.show(),
+            b'B' => self.take(Wanted::Octet),
+            b'W' => self.take(Wanted::Pair),
+            _ => self.take(Wanted::Long(usize::from(read16(x, 0)))),
+        }
     }
 }

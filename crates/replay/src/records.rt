@@ -2,25 +2,11 @@
 // the last delivered number, and the half-received message with its marks.
 use crate::answers::{Answer, done, letter, malformed};
 use crate::shapes::behind;
-use crate::station_calls;
-use links::{HalfMessage, HalfReceived, LastDelivered, Link, LinkState};
+use links::{HalfMessage, Link, LinkState};
 use octets::{octet_at, read16, read32};
 use transactions::{Socket, TransactionNumber};
 
-// The records after an operation, and its answer.
-#[derive(Clone, Copy)]
-pub(super) struct Records {
-    pub links: [Link; 8],
-    pub answer: Answer,
-}
-
-pub(super) fn keep(links: [Link; 8], answer: Answer) -> Records {
-    Records {
-        links: links,
-        answer: answer,
-    }
-}
-
+// A function and no `From`, as `use_octet` below: `LinkState` is the library's, and 2 and more are all one.
 fn state_of(octet: u8) -> LinkState {
     match octet {
         0 => LinkState::Free,
@@ -29,22 +15,24 @@ fn state_of(octet: u8) -> LinkState {
     }
 }
 
-fn last_of(x: &[u8]) -> LastDelivered {
+fn last_of(x: &[u8]) -> Option<TransactionNumber> {
     if octet_at(x, 7) == 0 {
-        return LastDelivered::Nothing;
+        return None;
     }
-    LastDelivered::Number(TransactionNumber(octet_at(x, 8)))
+    Some(TransactionNumber(octet_at(x, 8)))
 }
 
-fn half_of(x: &[u8]) -> HalfReceived {
+fn half_of(x: &[u8]) -> Option<HalfMessage> {
     if octet_at(x, 9) == 0 {
-        return HalfReceived::Nothing;
+        return None;
     }
-    HalfReceived::Message(HalfMessage {
+    let mut marks = [0u8; 8];
+    octet_parts::copy(&mut marks, 0, x, 14, 8);
+    Some(HalfMessage {
         number: TransactionNumber(octet_at(x, 10)),
         length: read16(x, 11),
         check: octet_at(x, 13),
-        marks: (read32(x, 14) as u64) * 4294967296 + (read32(x, 18) as u64),
+        marks: u64::from_be_bytes(marks),
     })
 }
 
@@ -59,24 +47,21 @@ pub(super) fn link_of(x: &[u8]) -> Link {
     }
 }
 
-// The place of a socket's record; 8 where there is no such socket.
-fn place_of(socket: Socket) -> usize {
+// A socket's record, if there is such a socket.
+fn record_of(links: &mut [Link; 8], socket: Socket) -> Option<&mut Link> {
     if socket.is_one_of(8) {
-        socket.place()
+        links.get_mut(socket.place())
     } else {
-        8
+        None
     }
 }
 
-fn set(links: [Link; 8], x: &[u8]) -> Records {
-    let place = place_of(Socket(octet_at(x, 0)));
-    let mut after = links;
-    let mut answer = malformed();
-    if place < 8 {
-        after[place] = link_of(behind(x, 1));
-        answer = done();
-    }
-    keep(after, answer)
+fn set(links: &mut [Link; 8], x: &[u8]) -> Answer {
+    let Some(record) = record_of(links, Socket(octet_at(x, 0))) else {
+        return malformed();
+    };
+    *record = link_of(behind(x, 1));
+    done()
 }
 
 fn use_octet(state: LinkState) -> u8 {
@@ -87,67 +72,56 @@ fn use_octet(state: LinkState) -> u8 {
     }
 }
 
-fn put_last(before: Answer, last: LastDelivered) -> Answer {
+fn put_last(before: Answer, last: Option<TransactionNumber>) -> Answer {
     match last {
-        LastDelivered::Nothing => before.pair(0),
-        LastDelivered::Number(t) => before.octet(1).octet(t.0),
+        None => before.pair(0),
+        Some(t) => before.octet(1).octet(t.0),
     }
 }
 
 fn put_message(before: Answer, m: HalfMessage) -> Answer {
-    let mut after = before.octet(1);
-    after = after.octet(m.number.0);
-    after = after.pair(m.length);
-    after = after.octet(m.check);
-    after = after.long((m.marks / 4294967296) as u32);
-    after.long((m.marks % 4294967296) as u32)
+    before
+        .octet(1)
+        .octet(m.number.0)
+        .pair(m.length)
+        .octet(m.check)
+        .part(&m.marks.to_be_bytes(), 0, 8)
 }
 
-fn put_half(before: Answer, half: HalfReceived) -> Answer {
+fn put_half(before: Answer, half: Option<HalfMessage>) -> Answer {
     match half {
-        HalfReceived::Nothing => before.octet(0).long(0).long(0).long(0),
-        HalfReceived::Message(m) => put_message(before, m),
+        None => before.octet(0).long(0).long(0).long(0),
+        Some(m) => put_message(before, m),
     }
 }
 
 pub(super) fn put_record(before: Answer, link: Link) -> Answer {
-    let state = link.state;
-    let last = link.last;
-    let half = link.half;
-    let mut after = before.octet(use_octet(state));
-    after = after.long(link.id);
-    after = after.octet(link.next.0);
-    after = after.flag(link.outstanding);
-    after = put_last(after, last);
-    put_half(after, half)
+    let shown = before
+        .octet(use_octet(link.state))
+        .long(link.id)
+        .octet(link.next.0)
+        .flag(link.outstanding);
+    put_half(put_last(shown, link.last), link.half)
 }
 
-fn show(links: [Link; 8], x: &[u8]) -> Answer {
-    let place = place_of(Socket(octet_at(x, 0)));
-    if place < 8 {
-        let link = links[place];
-        return put_record(letter(b'L'), link);
+fn show(links: &mut [Link; 8], x: &[u8]) -> Answer {
+    match record_of(links, Socket(octet_at(x, 0))) {
+        Some(record) => put_record(letter(b'L'), *record),
+        None => malformed(),
     }
-    malformed()
 }
 
-pub(super) fn show_all(links: [Link; 8]) -> Answer {
-    let mut after = letter(b'L');
-    let mut i = 0;
-    while i < 8 {
-        let link = links[i];
-        after = put_record(after, link);
-        i += 1;
-    }
-    after
+pub(super) fn show_all(links: &[Link; 8]) -> Answer {
+    links
+        .iter()
+        .fold(letter(b'L'), |shown, link| put_record(shown, *link))
 }
 
-// The records set and shown, and the local calls of the station, by the second letter.
-pub(super) fn perform(operation: u8, links: [Link; 8], x: &[u8]) -> Records {
-    match operation {
+// An operation by its second letter.
+pub(super) fn perform(second: u8, links: &mut [Link; 8], x: &[u8]) -> Answer {
+    match second {
         b'S' => set(links, x),
-        b'D' => keep(links, show(links, x)),
-        b'A' => keep(links, show_all(links)),
-        _ => station_calls::perform(operation, links, x),
+        b'D' => show(links, x),
+        _ => show_all(links),
     }
 }

@@ -1,58 +1,58 @@
 // The calls of the station.
-use crate::answers::{Answer, letter, malformed, refused};
-use crate::records::{Records, keep};
+use crate::answers::{Answer, done, letter, malformed, refused};
 use crate::shapes::behind;
 use link_records::Received;
-use links::{Answer as Answered, Link};
+use links::{Answer as Answered, Link, Refusal};
 use octets::{octet_at, read16, read32};
 use transactions::Socket;
 
-// The letter of an answer that has no fields.
-fn letter_of(answered: Answered) -> u8 {
+pub(super) fn answer_of(answered: Result<Answered, Refusal>) -> Answer {
     match answered {
-        Answered::AcknowledgeAgain => b'G',
-        Answered::Kept => b'K',
-        Answered::Repeat => b'R',
-        Answered::Opened => b'U',
-        Answered::Already => b'Y',
-        Answered::Acknowledged => b'A',
-        _ => b'O',
-    }
-}
-
-pub(super) fn answer_of(answered: Answered) -> Answer {
-    match answered {
-        Answered::Refused(r) => refused(refusal_numbers::of_station(r)),
-        Answered::Delivered { length, number } => letter(b'D').pair(length).octet(number.0),
-        Answered::Closed { reason } => letter(b'C').octet(reason),
-        Answered::Sending { number, last } => letter(b'S')
+        Ok(Answered::Delivered { length, number }) => letter(b'D').pair(length).octet(number.0),
+        Ok(Answered::Closed { reason }) => letter(b'C').octet(reason),
+        Ok(Answered::Sending { number, last }) => letter(b'S')
             .octet(number.0)
             .octet((last % 256) as u8),
-        _ => letter(letter_of(answered)),
+        Ok(Answered::AcknowledgeAgain) => letter(b'G'),
+        Ok(Answered::Kept) => letter(b'K'),
+        Ok(Answered::Repeat) => letter(b'R'),
+        Ok(Answered::Opened) => letter(b'U'),
+        Ok(Answered::Already) => letter(b'Y'),
+        Ok(Answered::Acknowledged) => letter(b'A'),
+        Ok(Answered::Done) => done(),
+        Err(refusal) => refused(refusal_numbers::of_station(refusal)),
     }
 }
 
-fn after(received: Received) -> Records {
-    let links = received.links;
-    let answered = received.answer;
-    keep(links, answer_of(answered))
+fn after(links: &mut [Link; 8], received: Received) -> Answer {
+    // A variable, since an array is not stored straight from a field of another value.
+    let next = received.links;
+    *links = next;
+    answer_of(received.answer)
 }
 
 // A frame is received, with the first octets of the area lent.
-pub(super) fn receive(links: [Link; 8], x: &[u8], area: &mut [u8]) -> Records {
-    let lent = read16(x, 0) as usize;
-    if area.len() < lent {
-        return keep(links, malformed());
-    }
-    after(station::receive(links, &mut area[0..lent], behind(x, 2)))
+pub(super) fn receive(links: &mut [Link; 8], x: &[u8], area: &mut [u8]) -> Answer {
+    let lent = usize::from(read16(x, 0));
+    let Some(area) = area.get_mut(..lent) else {
+        return malformed();
+    };
+    let received = station::receive(*links, area, behind(x, 2));
+    after(links, received)
 }
 
-// The local calls, by the second letter.
-pub(super) fn perform(operation: u8, links: [Link; 8], x: &[u8]) -> Records {
-    let socket = Socket(octet_at(x, 0));
-    match operation {
-        b'P' => after(local_calls::open(links, socket, read32(x, 1))),
-        b'N' => after(local_calls::send(links, socket, read16(x, 1) as usize)),
-        _ => after(local_calls::close(links, socket)),
-    }
+// The local calls.
+pub(super) fn open(links: &mut [Link; 8], x: &[u8]) -> Answer {
+    let received = local_calls::open(*links, Socket(octet_at(x, 0)), read32(x, 1));
+    after(links, received)
+}
+
+pub(super) fn send(links: &mut [Link; 8], x: &[u8]) -> Answer {
+    let received = local_calls::send(*links, Socket(octet_at(x, 0)), usize::from(read16(x, 1)));
+    after(links, received)
+}
+
+pub(super) fn close(links: &mut [Link; 8], x: &[u8]) -> Answer {
+    let received = local_calls::close(*links, Socket(octet_at(x, 0)));
+    after(links, received)
 }

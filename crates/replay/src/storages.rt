@@ -3,27 +3,33 @@ use crate::answers::{Answer, done, letter, malformed};
 use crate::shapes::behind;
 use octets::{octet_at, read16};
 
+// How many octets storage A has.
+pub(super) const AREA: usize = 0x2E00;
+
+// Storage O.
+pub(super) const OUTPUT: usize = 0x1000;
+
+// Storages B and E; a view is over at most so many, too.
+pub(super) const BUFFER: usize = 0x0600;
+
 pub(super) fn fill(octet: u8, storage: &mut [u8]) -> Answer {
-    let mut i = 0;
-    while i < storage.len() {
-        storage[i] = octet;
-        i += 1;
-    }
+    storage.fill(octet);
     done()
 }
 
 fn write(x: &[u8], storage: &mut [u8]) -> Answer {
+    let place = usize::from(read16(x, 0));
     let written = behind(x, 2);
-    if octet_parts::copy(storage, read16(x, 0) as usize, written, 0, written.len()) {
+    if octet_parts::copy(storage, place, written, 0, written.len()) {
         return done();
     }
     malformed()
 }
 
 fn show(x: &[u8], storage: &[u8]) -> Answer {
-    let place = read16(x, 0) as usize;
+    let place = usize::from(read16(x, 0));
     let count = read16(x, 2);
-    if (0x0FA0 < count) | (storage.len() < place + (count as usize)) {
+    if 0x0FA0 < count || storage.len() < place + usize::from(count) {
         return malformed();
     }
     letter(b'H').part(storage, place, count)

@@ -1,92 +1,82 @@
 // The proxy transfer.
-use crate::answers::{Answer, done, letter, malformed, refused};
+use crate::answers::{Answer, done, letter, malformed, refused, wrong_argument};
 use crate::shapes::behind;
-use octets::{octet_at, read16};
-use proxy::{ConnectionAnswer, ConnectionSet, HalfTransfer, PieceAnswer, PieceCount, Transfer};
+use octets::{WrongArgument, octet_at, read16};
+use proxy::{BadState, ConnectionSet, HalfTransfer, PieceAnswer, PieceRefusal, Transfer};
 
-// The transfer after an operation, and its answer.
-#[derive(Clone, Copy)]
-pub(super) struct TransferStep {
-    pub transfer: Transfer,
-    pub answer: Answer,
-}
-
-fn keep(transfer: Transfer, answer: Answer) -> TransferStep {
-    TransferStep {
-        transfer: transfer,
-        answer: answer,
-    }
-}
-
-fn half_of(x: &[u8]) -> HalfTransfer {
+fn half_of(x: &[u8]) -> Option<HalfTransfer> {
     if octet_at(x, 1) == 0 {
-        return HalfTransfer::Nothing;
+        return None;
     }
-    HalfTransfer::Held {
+    Some(HalfTransfer {
         kind: octet_at(x, 2),
         length: read16(x, 3),
-    }
+    })
 }
 
-fn set(x: &[u8]) -> TransferStep {
-    let after = Transfer {
+fn set(transfer: &mut Transfer, x: &[u8]) -> Answer {
+    *transfer = Transfer {
         connected: octet_at(x, 0) == 1,
         half: half_of(x),
     };
-    keep(after, done())
+    done()
 }
 
 pub(super) fn show(transfer: Transfer) -> Answer {
-    let half = transfer.half;
     let shown = letter(b'X').flag(transfer.connected);
-    match half {
-        HalfTransfer::Nothing => shown.long(0),
-        HalfTransfer::Held { kind, length } => shown.octet(1).octet(kind).pair(length),
+    match transfer.half {
+        None => shown.long(0),
+        Some(half) => shown.octet(1).octet(half.kind).pair(half.length),
     }
 }
 
-fn after_connecting(connected: ConnectionSet) -> TransferStep {
-    let answered = connected.answer;
-    let answer = match answered {
-        ConnectionAnswer::Done => done(),
-        ConnectionAnswer::BadState => refused(14),
-    };
-    keep(connected.transfer, answer)
+fn after_connecting(transfer: &mut Transfer, connected: ConnectionSet) -> Answer {
+    *transfer = connected.transfer;
+    match connected.answer {
+        Ok(()) => done(),
+        Err(BadState) => refused(refusal_numbers::of_piece(PieceRefusal::BadState)),
+    }
 }
 
-fn piece_answer(answered: PieceAnswer) -> Answer {
+fn piece_answer(answered: Result<PieceAnswer, PieceRefusal>) -> Answer {
     match answered {
-        PieceAnswer::More => letter(b'M'),
-        PieceAnswer::Whole { kind, length } => letter(b'T').octet(kind).pair(length),
-        PieceAnswer::Refused(r) => refused(refusal_numbers::of_piece(r)),
+        Ok(PieceAnswer::More) => letter(b'M'),
+        Ok(PieceAnswer::Whole { kind, length }) => letter(b'T').octet(kind).pair(length),
+        Err(refusal) => refused(refusal_numbers::of_piece(refusal)),
     }
 }
 
 // Reads a piece, with the first octets of the buffer lent.
-pub(super) fn read(transfer: Transfer, x: &[u8], buffer: &mut [u8]) -> TransferStep {
-    let lent = read16(x, 0) as usize;
-    if buffer.len() < lent {
-        return keep(transfer, malformed());
-    }
-    let read = proxy_reading::read_piece(transfer, &mut buffer[0..lent], behind(x, 2));
-    let answered = read.answer;
-    keep(read.transfer, piece_answer(answered))
+pub(super) fn read(transfer: &mut Transfer, x: &[u8], buffer: &mut [u8]) -> Answer {
+    let lent = usize::from(read16(x, 0));
+    let Some(buffer) = buffer.get_mut(..lent) else {
+        return malformed();
+    };
+    let read = proxy_reading::read_piece(*transfer, buffer, behind(x, 2));
+    *transfer = read.transfer;
+    piece_answer(read.answer)
 }
 
 fn count(x: &[u8]) -> Answer {
-    let counted = proxy_writing::count_pieces(read16(x, 0) as usize, read16(x, 2) as usize);
-    match counted {
-        PieceCount::Pieces(n) => letter(b'N').octet((n % 256) as u8),
-        PieceCount::WrongArgument => refused(11),
+    match proxy_writing::count_pieces(usize::from(read16(x, 0)), usize::from(read16(x, 2))) {
+        Ok(n) => letter(b'N').octet((n % 256) as u8),
+        Err(WrongArgument) => wrong_argument(),
     }
 }
 
-pub(super) fn perform(operation: u8, transfer: Transfer, x: &[u8]) -> TransferStep {
-    match operation {
-        b'S' => set(x),
-        b'D' => keep(transfer, show(transfer)),
-        b'C' => after_connecting(proxy_connection::connect(transfer)),
-        b'X' => after_connecting(proxy_connection::disconnect(transfer)),
-        _ => keep(transfer, count(x)),
+// An operation by its second letter, but for the pieces read and written.
+pub(super) fn perform(second: u8, transfer: &mut Transfer, x: &[u8]) -> Answer {
+    match second {
+        b'S' => set(transfer, x),
+        b'D' => show(*transfer),
+        b'C' => {
+            let connected = proxy_connection::connect(*transfer);
+            after_connecting(transfer, connected)
+        }
+        b'X' => {
+            let disconnected = proxy_connection::disconnect(*transfer);
+            after_connecting(transfer, disconnected)
+        }
+        _ => count(x),
     }
 }

@@ -1,17 +1,17 @@
 // The writers of frames and of proxy pieces, the check octet and SegN.
-use crate::answers::{Answer, letter, malformed, refused};
+use crate::answers::{Answer, letter, malformed, wrong_argument};
 use crate::shapes::behind;
 use octets::{Written, octet_at, read16, read32};
 use transactions::TransactionNumber;
 
 fn write_segment(x: &[u8], id: u32, number: TransactionNumber, output: &mut [u8]) -> Written {
-    let index = octet_at(x, 7) as usize;
+    let index = usize::from(octet_at(x, 7));
     pb_adv_writing::write_segment(id, number, behind(x, 8), index, output)
 }
 
 fn write_piece(x: &[u8], output: &mut [u8]) -> Written {
-    let size = read16(x, 2) as usize;
-    let index = octet_at(x, 5) as usize;
+    let size = usize::from(read16(x, 2));
+    let index = usize::from(octet_at(x, 5));
     proxy_writing::write_piece(size, octet_at(x, 4), behind(x, 6), index, output)
 }
 
@@ -31,8 +31,8 @@ fn written_by(second: u8, x: &[u8], output: &mut [u8]) -> Written {
 
 // The length of what is written, and the octets from the start of the output.
 fn answer_of(written: Written, output: &[u8]) -> Answer {
-    let Written::Count(n) = written else {
-        return refused(11);
+    let Ok(n) = written else {
+        return wrong_argument();
     };
     let length = (n % 65536) as u16;
     letter(b'W').pair(length).part(output, 0, length)
@@ -40,11 +40,11 @@ fn answer_of(written: Written, output: &[u8]) -> Answer {
 
 // A writer, with the first octets of the output lent.
 pub(super) fn perform(second: u8, x: &[u8], output: &mut [u8]) -> Answer {
-    let lent = read16(x, 0) as usize;
-    if output.len() < lent {
+    let lent = usize::from(read16(x, 0));
+    let Some(room) = output.get_mut(..lent) else {
         return malformed();
-    }
-    let written = written_by(second, x, &mut output[0..lent]);
+    };
+    let written = written_by(second, x, room);
     answer_of(written, output)
 }
 
@@ -52,14 +52,14 @@ pub(super) fn check_octet(x: &[u8]) -> Answer {
     if octets::is_length(x.len()) {
         return letter(b'N').octet(fcs::check_octet(x));
     }
-    refused(11)
+    wrong_argument()
 }
 
 pub(super) fn last_segment(x: &[u8]) -> Answer {
     let length = read16(x, 0);
-    if octets::is_length(length as usize) {
+    if octets::is_length(usize::from(length)) {
         let last = transactions::last_segment(length);
         return letter(b'N').octet((last % 256) as u8);
     }
-    refused(11)
+    wrong_argument()
 }

@@ -1,11 +1,9 @@
 -- The replay program's language (docs/REPLAY.md): lines of arguments, lines of answers, and the hash.
-use Rattle.std.specs.Prelude.{ℕ, ◌+◌, ◌*◌, ◌-◌, ◌/◌, ◌%◌, Bool, true, ◌&&◌, cond, List, [], ◌∷◌, leb, length, take}
+use Rattle.std.specs.Prelude.{ℕ, ◌+◌, ◌*◌, ◌-◌, ◌/◌, ◌%◌, Bool, true, ◌&&◌, cond, List, [], ◌∷◌, leb, length, take, Result, Ok, Err}
 use Rattle.octets.specs.Parts.{part}
 use Rattle.hexadecimal.specs.Hex.{decoded_of, decoded_output, digit_line}
-use Rattle.hexadecimal.specs.declared.Decoded.{Decoded}
-use Rattle.hexadecimal.specs.declared.Decoded.TheVariants as D
-use Rattle.script.specs.declared.Arguments.{Arguments}
-use Rattle.script.specs.declared.Arguments.TheVariants as A
+use Rattle.hexadecimal.specs.declared.DecodeError.{DecodeError}
+use Rattle.script.specs.declared.Malformed.{Malformed}
 use Rattle.script.specs.declared.Outcome.{Outcome}
 use Rattle.script.specs.declared.Outcome.TheVariants as O
 
@@ -23,14 +21,13 @@ unfoldable pub is_line : List ℕ → Bool
 is_line line = leb 2 (length line) && (leb (length line) 8192 && capitals (behind line))
 
 -- octets, two digits each
-abbrev pub arguments_of : Decoded → Arguments
-arguments_of (D.Octets n) = A.Octets n
-arguments_of D.NotHexadecimal = A.Malformed
-arguments_of D.TooLong = A.Malformed
+abbrev pub arguments_of : Result ℕ DecodeError → Result ℕ Malformed
+arguments_of (Ok n) = Ok n
+arguments_of (Err e) = Err (record {})
 
 -- THE ARGUMENTS OF A LINE, and the output after them: their octets at its start, or as it was
-unfoldable pub arguments_read : List ℕ → List ℕ → Arguments
-arguments_read line output = cond (is_line line) (arguments_of (decoded_of (behind line) output)) A.Malformed
+unfoldable pub arguments_read : List ℕ → List ℕ → Result ℕ Malformed
+arguments_read line output = cond (is_line line) (arguments_of (decoded_of (behind line) output)) (Err (record {}))
 
 unfoldable pub arguments_after : List ℕ → List ℕ → List ℕ
 arguments_after line output = cond (is_line line) (decoded_output (behind line) output) output

@@ -5,22 +5,17 @@
 ghost use Rattle.std.specs.Prelude.{◌≡◌, true, [], ◌∷◌, ◌+◌, ◌/◌, ◌%◌, ◌≤◌, length, take};
 ghost use Rattle.octets.specs.Writing.{written, output_after};
 ghost use Rattle.hexadecimal.specs.Hex.{digit_line};
-ghost use Rattle.script.specs.Script.{capitals, is_line, arguments_of, arguments_read, arguments_after, outcome_line, hash_step, hash_from};
+ghost use Rattle.script.specs.Script.{capitals, is_line, arguments_read, arguments_after, outcome_line, hash_step, hash_from};
 
-use hexadecimal::Decoded;
+use hexadecimal::DecodeError;
 use octets::Written;
 
 // The longest line, its newline left out.
 pub const LONGEST: usize = 8192;
 
-// The arguments of a line.
-#[derive(Clone, Copy)]
-pub enum Arguments {
-    // So many octets now stand at the start of the output.
-    Octets(usize),
-    // The output is as it was.
-    Malformed,
-}
+// A line without arguments that can be read.
+#[derive(Clone, Copy, Debug, PartialEq, Eq)]
+pub struct Malformed;
 
 // What a line came to.
 #[derive(Clone, Copy)]
@@ -28,7 +23,7 @@ pub enum Outcome {
     // A letter, and so many octets from the start of the values.
     Values { letter: u8, count: usize },
     Done,
-    // A refusal by its number.
+    // A refusal by its number, which stays one: the crates have refusals of many enums, and a line tells them all by document 01's number.
     Refused(u8),
     Malformed,
 }
@@ -36,49 +31,38 @@ pub enum Outcome {
 fn all_capitals(text: &[u8]) -> bool
     ensures { result ≡ capitals text.now }
 {
-    let mut i = 0;
-    while i < text.len() {
-        if b'F' < text[i] {
-            return false;
-        }
-        i += 1;
-    }
-    true
+    text.iter().all(|character| *character <= b'F')
 }
 
 // A line of two letters or more and at most 8,192 characters, whose digits are capitals.
+#[tactic(auto, using(octets::proofs::Tests::tests), unfolding(crate::specs::Script::is_line))]
 fn is_line(line: &[u8]) -> bool
     ensures { (result ≡ is_line line.now) × (result ≡ true → 2 ≤ length line.now) }
 {
-    if line.len() < 2 {
-        return false;
-    }
-    if LONGEST < line.len() {
-        return false;
-    }
-    all_capitals(&line[2..])
+    2 <= line.len() && line.len() <= LONGEST && all_capitals(&line[2..])
 }
 
-fn arguments_of(decoded: Decoded) -> Arguments
-    ensures { result ≡ arguments_of decoded }
-{
-    match decoded {
-        Decoded::Octets(n) => Arguments::Octets(n),
-        Decoded::NotHexadecimal => Arguments::Malformed,
-        Decoded::TooLong => Arguments::Malformed,
+// A text that is not read makes a line that is malformed.
+impl From<DecodeError> for Malformed {
+    ghost from_gives = { λ _ e. e ≡ record {} };
+
+    fn from(_error: DecodeError) -> Malformed {
+        Malformed
     }
 }
 
-// The octets that a line has behind the two letters of its operation.
-pub fn read_arguments(line: &[u8], output: &mut [u8]) -> Arguments
+// The octets that a line has behind the two letters of its operation: so many now stand at the start of the output, which is as it was where they are
+// refused.
+#[tactic(auto, using(octets::proofs::Tests::tests), unfolding(crate::specs::Script::arguments_read, crate::specs::Script::arguments_after))]
+pub fn read_arguments(line: &[u8], output: &mut [u8]) -> Result<usize, Malformed>
     ensures { (result ≡ arguments_read line.now output.old)
         × (output.new ≡ arguments_after line.now output.old) }
 {
-    if is_line(line) {
-        let decoded = hexadecimal::decode(&line[2..], output);
-        return arguments_of(decoded);
+    if !is_line(line) {
+        return Err(Malformed);
     }
-    Arguments::Malformed
+    let count = hexadecimal::decode(&line[2..], output)?;
+    Ok(count)
 }
 
 // A letter, and so many octets from the start of the values.
@@ -123,11 +107,5 @@ fn hash_step(hash: u32, octet: u8) -> u32
 pub fn hash(before: u32, octets: &[u8]) -> u32
     ensures { result ≡ hash_from before octets.now }
 {
-    let mut h = before;
-    let mut i = 0;
-    while i < octets.len() {
-        h = hash_step(h, octets[i]);
-        i += 1;
-    }
-    h
+    octets.iter().fold(before, |h, octet| hash_step(h, *octet))
 }

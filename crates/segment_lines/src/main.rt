@@ -5,10 +5,19 @@ ghost use Rattle.std.specs.Prelude.{◌≤◌, ◌≡◌, length};
 ghost use Rattle.segment_lines.specs.Turns.{PieceHeld, LineEnded, Turn};
 ghost use Rattle.segment_lines.specs.Runs.{Ran};
 
-use hex_lines::LineWritten;
+use hex_lines::LineText;
 use lines::Streams;
+use octets::LONGEST_MESSAGE;
 use std::io::Read;
 use transactions::TransactionNumber;
+
+// One character more than the longest message has digits.
+const LINE_ROOM: usize = 2 * LONGEST_MESSAGE + 1;
+
+type Line = [u8; LINE_ROOM];
+
+// What is written out together: it has room for any text.
+type Output = [u8; 65536];
 
 // How far the program has come.
 #[derive(Clone, Copy)]
@@ -21,26 +30,24 @@ struct Progress {
 }
 
 // Reads on as far as a line's end, or the end of what is there. A line that fills its buffer is longer than any message, and refused whatever
-// follows.
+// follows. Its own here and in `replay`: what stands beside the streams differs, and `PieceHeld` speaks of this program's.
 fn read_on<P: Print + Eprint, R: Read>(
     rt: &P,
     reader: &mut R,
     progress: Progress,
     input: &mut [u8],
-    line: &mut [u8],
+    line: &mut Line,
     output: &[u8],
 ) -> Progress
     requires { progress.held ≤ length line.old }
     ensures { PieceHeld progress input.old line.old output.now result input.new line.new }
 {
     let streams = lines::next_piece(rt, reader, progress.streams, input, output);
-    let from = streams.from;
-    let to = streams.to;
-    let number = progress.number;
+    let piece = &input[streams.from..streams.to];
     Progress {
-        streams: streams,
-        held: line_buffer::hold(line, progress.held, &input[from..to]),
-        number: number,
+        streams,
+        held: line_buffer::hold(line, progress.held, piece),
+        ..progress
     }
 }
 
@@ -49,22 +56,24 @@ fn end_line<P: Print + Eprint>(
     rt: &P,
     progress: Progress,
     line: &[u8],
-    output: &mut [u8],
+    output: &mut Output,
 ) -> Progress
-    requires { (progress.held ≤ length line.now) × (3776 ≤ length output.old) }
+    requires { progress.held ≤ length line.now }
     ensures { LineEnded progress line.now output.old result output.new }
 {
-    let held = progress.held;
     let number = progress.number;
     let streams = lines::make_room(rt, progress.streams, output, hex_lines::MOST);
-    let waiting = streams.waiting;
-    let answer = hex_lines::write_line(number, &line[..held], &mut output[waiting..]);
-    let LineWritten::Text { length, next } = answer else {
+    let answer = hex_lines::write_line(
+        number,
+        &line[..progress.held],
+        &mut output[streams.waiting..],
+    );
+    let Ok(LineText { length, next }) = answer else {
         // Never: the room is enough for any line.
         return Progress {
-            streams: streams,
+            streams,
             held: 0,
-            number: number,
+            number,
         };
     };
     Progress {
@@ -74,15 +83,16 @@ fn end_line<P: Print + Eprint>(
     }
 }
 
+// The handle, the reader and the buffers stay parameters: a record of them would lend the buffers, and `Turn` would speak of them through it.
 fn take_turn<P: Print + Eprint, R: Read>(
     rt: &P,
     reader: &mut R,
     progress: Progress,
     input: &mut [u8],
-    line: &mut [u8],
-    output: &mut [u8],
+    line: &mut Line,
+    output: &mut Output,
 ) -> Progress
-    requires { (progress.held ≤ length line.old) × (3776 ≤ length output.old) }
+    requires { progress.held ≤ length line.old }
     ensures { Turn progress input.old line.old output.old result input.new line.new output.new }
 {
     let read = read_on(rt, reader, progress, input, line, output);
@@ -97,10 +107,9 @@ fn run<P: Print + Eprint, R: Read>(
     rt: &P,
     reader: &mut R,
     input: &mut [u8],
-    line: &mut [u8],
-    output: &mut [u8],
+    line: &mut Line,
+    output: &mut Output,
 ) -> Progress
-    requires { (length line.old ≡ 2939) × (3776 ≤ length output.old) }
     ensures { Ran input.old line.old output.old result input.new line.new output.new }
 {
     let mut progress = Progress {
@@ -108,29 +117,22 @@ fn run<P: Print + Eprint, R: Read>(
         held: 0,
         number: TransactionNumber(0),
     };
-    // Nothing says that the input ends, so the turns are counted down from a number that no run uses up.
-    let mut turns = u64::MAX;
-    while turns > 0 {
+    // Nothing says that the input ends, so the turns are counted, up to a number that no run reaches.
+    for _ in 0..u64::MAX {
         progress = take_turn(rt, reader, progress, input, line, output);
-        let streams = progress.streams;
-        if streams.found {
-            turns -= 1;
-        } else {
-            turns = 0;
+        if !progress.streams.found {
+            break;
         }
     }
-    let number = progress.number;
     Progress {
         streams: lines::flush(rt, progress.streams, output),
-        held: progress.held,
-        number: number,
+        ..progress
     }
 }
 
 fn main(rt: HostRuntime) {
     let mut input = io::large_buffer();
     let mut output = io::large_buffer();
-    // One character more than the longest message has digits.
-    let mut line = [0u8; 2939];
+    let mut line: Line = [0; LINE_ROOM];
     run(&rt, &mut rt.stdin(), &mut input, &mut line, &mut output);
 }

@@ -7,17 +7,19 @@ use mathlib.Core.Path.{◌≡◌, refl, sym, ap, ◌∙◌}
 use lib.Dec.{leb, eqb}
 use lib.ListN.{length, drop, get_or}
 use borrow.Author.Tests.{leb-true, leb-false, eqb-true, ne_eqb}
+use Rattle.std.specs.Prelude.{Result, Ok, Err}
 use Rattle.octets.specs.Numbers.{Octets, big16, octets16, octets32}
 use Rattle.octets.proofs.Numbers.{four-octets, number-back}
 use Rattle.octets.specs.Parts.{same}
 use Rattle.octets.proofs.Tests.{cases, both_hold, holds-both}
 use Rattle.hexadecimal.specs.Hex.{digit_of, text_of, octets_of}
 use Rattle.hexadecimal.proofs.Laws.{octets-back}
-use Rattle.provisioning.specs.Message.{told}
+use Rattle.provisioning.specs.Message.{message_told, told}
 use Rattle.provisioning.specs.Tables.{capabilities_values}
 use Rattle.provisioning.specs.Promises.{number_octets}
 use Rattle.provisioning.specs.declared.Message.{Message}
 use Rattle.provisioning.specs.declared.Message.TheVariants as M
+use Rattle.provisioning.specs.declared.MessageRefusal.{MessageRefusal}
 use Rattle.provisioning.proofs.Promises.{capabilities-in-place, fields-are-octets}
 use Rattle.line_fields.specs.Lines.{ascii, digits_up_to, decimal_of, hexadecimal_of, word_text, field_text, line_of}
 use Rattle.line_fields.specs.declared.Word.{Word}
@@ -26,8 +28,8 @@ use Rattle.line_fields.specs.declared.Field.{Field}
 use Rattle.line_fields.specs.declared.Field.TheVariants as F
 use Rattle.stock_table.specs.declared.Row.{Row}
 use Rattle.stock_table.specs.declared.Origin.{Origin}
-use Rattle.stock_table.specs.declared.Stated.TheVariants as S
-use Rattle.stock_table.specs.Rows.{origin_of, unknown, row_of, record_row, word_of}
+use Rattle.std.specs.Prelude.{None}
+use Rattle.stock_table.specs.Rows.{origin_of, unknown, row_of, record_row, message_word, word_of}
 use Rattle.stock_table.specs.Columns.{columns, row_fields, header_line, row_line}
 use Rattle.stock_table.specs.Promises.{is_one_line, RowsAreLines, cut_from, cut_at_commas, under, name_of, SameColumns, UnderColumn, RecordColumns, RecordsInPlace, NoteColumns, NotesInPlace, Source, row_for, RowsLoseNothing}
 
@@ -214,26 +216,30 @@ records-in-place what line origin m o c accepted =
     }
 
 -- a message's word is its name
-word-name : (m : Message) → field_text (word_of m) ≡ ascii (name_of (told m))
-unfolding field_text word_text
-word-name (M.Invite attention) = refl
-word-name (M.Capabilities c) = refl
-word-name (M.Start c) = refl
-word-name (M.PublicKey x y) = refl
-word-name M.InputComplete = refl
-word-name (M.Confirmation c) = refl
-word-name (M.Random r) = refl
-word-name (M.Data d mic) = refl
-word-name M.Complete = refl
-word-name (M.Failed code) = refl
-word-name (M.Refused r) = refl
+message-name : (m : Message) → word_text (message_word m) ≡ ascii (name_of (message_told m))
+unfolding word_text
+message-name (M.Invite attention) = refl
+message-name (M.Capabilities c) = refl
+message-name (M.Start c) = refl
+message-name (M.PublicKey x y) = refl
+message-name M.InputComplete = refl
+message-name (M.Confirmation c) = refl
+message-name (M.Random r) = refl
+message-name (M.Data d mic) = refl
+message-name M.Complete = refl
+message-name (M.Failed code) = refl
+
+word-name : (m : Result Message MessageRefusal) → field_text (word_of m) ≡ ascii (name_of (told m))
+unfolding field_text
+word-name (Ok m) = message-name m
+word-name (Err r) = refl
 
 -- a row that has no fields
 note-columns : (what : Word) (line : Field) (origin : Origin) (refusal message : Field)
-    → NoteColumns what (field_text line) origin (field_text refusal) (field_text message) (row_line (row_of what line origin refusal message S.Nothing))
+    → NoteColumns what (field_text line) origin (field_text refusal) (field_text message) (row_line (row_of what line origin refusal message None))
 unfolding field_text word_text
 note-columns what line origin refusal message =
-    let row = row_of what line origin refusal message S.Nothing in
+    let row = row_of what line origin refusal message None in
     let u = under_at row in
     record {
       what_is = u 0;

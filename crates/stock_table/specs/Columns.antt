@@ -1,12 +1,10 @@
 -- The columns of the stock table: one list of names and fields, from which the header and every row are made. Quotations are of `docs/IMPORT.md`.
-use Rattle.std.specs.Prelude.{ℕ, List, [], ◌∷◌, map}
+use Rattle.std.specs.Prelude.{ℕ, Option, Some, None, List, [], ◌∷◌, map}
 use Prim.Native.String.{String}
 use Rattle.line_fields.specs.Lines.{ascii, field_text, line_of}
 use Rattle.line_fields.specs.declared.Field.{Field}
 use Rattle.line_fields.specs.declared.Field.TheVariants as F
 use Rattle.provisioning.specs.declared.Capabilities.{Capabilities}
-use Rattle.stock_table.specs.declared.Stated.{Stated}
-use Rattle.stock_table.specs.declared.Stated.TheVariants as S
 use Rattle.stock_table.specs.declared.Row.{Row}
 
 -- a name, and the field that a row has under it
@@ -31,9 +29,9 @@ capabilities_columns =
     ∷ []
 
 -- "empty where a row has no value for one"
-abbrev pub stated_field : (Capabilities → Field) → Stated → Field
-stated_field field S.Nothing = F.Empty
-stated_field field (S.Fields c) = field c
+abbrev pub stated_field : (Capabilities → Field) → Option Capabilities → Field
+stated_field field None = F.Empty
+stated_field field (Some c) = field c
 
 -- the same column of a row
 abbrev pub of_row : Column Capabilities → Column Row
@@ -53,7 +51,7 @@ columns =
 
 -- ---- the header and a row, column by column
 
-abbrev pub stated_fields : Stated → List Field
+abbrev pub stated_fields : Option Capabilities → List Field
 stated_fields stated = map (λ c. stated_field c.field stated) capabilities_columns
 
 abbrev pub row_fields : Row → List Field

@@ -1,6 +1,6 @@
 -- What is promised of the stock table, in the terms of who reads it: the header and a row cut at their commas. The proofs are `proofs/Promises.antt`.
 -- Quotations are of `docs/IMPORT.md`.
-use Rattle.std.specs.Prelude.{ℕ, zero, suc, ◌<◌, Bool, true, false, cond, List, [], ◌∷◌, ◌++◌, map, ◌≡◌, eqb, length, drop, get_or, replicate}
+use Rattle.std.specs.Prelude.{ℕ, zero, suc, ◌<◌, Bool, true, false, cond, List, [], ◌∷◌, ◌++◌, map, ◌≡◌, eqb, length, drop, get_or, replicate, Result, Ok}
 use Prim.Native.String.{String}
 use Rattle.octets.specs.Numbers.{Octets}
 use Rattle.octets.specs.Parts.{same}
@@ -10,6 +10,7 @@ use Rattle.provisioning.specs.Message.{message_read, told}
 use Rattle.provisioning.specs.declared.Capabilities.{Capabilities}
 use Rattle.provisioning.specs.declared.Message.{Message}
 use Rattle.provisioning.specs.declared.Message.TheVariants as M
+use Rattle.provisioning.specs.declared.MessageRefusal.{MessageRefusal}
 use Rattle.line_fields.specs.Lines.{ascii, decimal_of, hexadecimal_of, field_text, word_text}
 use Rattle.line_fields.specs.declared.Word.{Word}
 use Rattle.line_fields.specs.declared.Word.TheVariants as W
@@ -80,7 +81,7 @@ pub record RecordColumns (what : Word) (line : ℕ) (origin : Origin) (m row : L
 
 abbrev pub RecordsInPlace : Type 0
 RecordsInPlace =
-    (what : Word) (line : ℕ) (origin : Origin) (m : List ℕ) → Octets m → (c : Capabilities) → message_read m ≡ M.Capabilities c
+    (what : Word) (line : ℕ) (origin : Origin) (m : List ℕ) → Octets m → (c : Capabilities) → message_read m ≡ Ok (M.Capabilities c)
     → RecordColumns what line origin m (row_line (record_row what line origin c))
 
 -- ---- the other rows: texts in the columns before the eight fields, and those empty
@@ -102,7 +103,7 @@ name_of (answered name values) = name
 
 pub record NotesInPlace : Type 0 where
   pub refusals : (line : ℕ) (origin : Origin) (n : ℕ) → NoteColumns W.Refused (decimal_of line) origin (decimal_of n) [] (row_line (refused_row line origin n))
-  pub messages : (line : ℕ) (origin : Origin) (m : Message)
+  pub messages : (line : ℕ) (origin : Origin) (m : Result Message MessageRefusal)
       → NoteColumns W.Message (decimal_of line) origin [] (ascii (name_of (told m))) (row_line (message_row line origin m))
   pub sockets : (what : Word) (s : Socket) → NoteColumns what [] (origin_of (F.Decimal s.0) F.Empty F.Empty) [] [] (row_line (socket_row what s))
   pub end : (lines : ℕ) → NoteColumns W.End (decimal_of lines) unknown [] [] (row_line (end_row lines))
@@ -121,7 +122,7 @@ pub record Source : Type 0 where
   pub id_range : id < 4294967296
   pub number_range : number < 256
   pub are_octets : Octets octets
-  pub accepted : message_read octets ≡ M.Capabilities capabilities
+  pub accepted : message_read octets ≡ Ok (M.Capabilities capabilities)
 
 abbrev pub row_for : Source → Row
 row_for x = record_row x.what x.line (origin_of (F.Decimal x.socket) (F.Number x.id) (F.Octet x.number)) x.capabilities

@@ -10,18 +10,11 @@ pub use rows::{end_row, message_row, record_row, refused_row, socket_row};
 pub use writing::{write_header, write_row};
 
 // Where a row comes from: its columns socket, link_id and number.
-#[derive(Clone, Copy)]
+#[derive(Clone, Copy, Default)]
 pub struct Origin {
     pub socket: Field,
     pub id: Field,
     pub number: Field,
-}
-
-// The eight fields of a Capabilities message, or none.
-#[derive(Clone, Copy)]
-pub enum Stated {
-    Nothing,
-    Fields(Capabilities),
 }
 
 // A row of the table.
@@ -32,5 +25,6 @@ pub struct Row {
     pub origin: Origin,
     pub refusal: Field,
     pub message: Field,
-    pub stated: Stated,
+    // The eight fields of a Capabilities message.
+    pub stated: Option<Capabilities>,
 }

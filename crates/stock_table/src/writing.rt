@@ -3,9 +3,10 @@ ghost use Rattle.std.specs.Prelude.{true, ◌≡◌, ◌≤◌, length};
 ghost use Rattle.octets.specs.Writing.{written, output_after};
 ghost use Rattle.stock_table.specs.Columns.{stated_fields, row_fields, header_line, row_line};
 
-use super::{Row, Stated};
+use super::Row;
 use line_fields::{Field, write_fields, write_text};
 use octets::Written;
+use provisioning::Capabilities;
 
 // The first line of all.
 pub fn write_header(output: &mut [u8]) -> Written
@@ -19,10 +20,10 @@ pub fn write_header(output: &mut [u8]) -> Written
     )
 }
 
-fn stated_fields(stated: Stated) -> [Field; 8]
+fn stated_fields(stated: Option<Capabilities>) -> [Field; 8]
     ensures { result ≡ stated_fields stated }
 {
-    let Stated::Fields(capabilities) = stated else {
+    let Some(capabilities) = stated else {
         return [Field::Empty; 8];
     };
     [
@@ -40,24 +41,15 @@ fn stated_fields(stated: Stated) -> [Field; 8]
 fn row_fields(row: Row) -> [Field; 15]
     ensures { result ≡ row_fields row }
 {
-    let what = row.what;
-    let line = row.line;
-    let origin = row.origin;
-    let socket = origin.socket;
-    let id = origin.id;
-    let number = origin.number;
-    let refusal = row.refusal;
-    let message = row.message;
-    let capabilities = row.stated;
-    let stated = stated_fields(capabilities);
+    let stated = stated_fields(row.stated);
     [
-        Field::Word(what),
-        line,
-        socket,
-        id,
-        number,
-        refusal,
-        message,
+        Field::Word(row.what),
+        row.line,
+        row.origin.socket,
+        row.origin.id,
+        row.origin.number,
+        row.refusal,
+        row.message,
         stated[0],
         stated[1],
         stated[2],

@@ -19,15 +19,13 @@ impl Socket {
     pub fn is_one_of(self, count: u8) -> bool
         ensures { result ≡ is_socket self count }
     {
-        let s = self.0;
-        if 1 <= s { s <= count } else { false }
+        1 <= self.0 && self.0 <= count
     }
 
     // The place of its record and of its part of the area, counted from 0. Socket 0, which no station has, is given place 0.
     pub fn place(self) -> usize
         ensures { result ≡ socket_place self }
     {
-        let s = self.0 as usize;
-        if 1 <= s { s - 1 } else { 0 }
+        (self.0 as usize).saturating_sub(1)
     }
 }

@@ -5,12 +5,12 @@ use Rattle.links.specs.declared.Side.TheVariants.{Device}
 use Rattle.device.proofs.Laws.{closed-as, judged-bad, judged-right}
 use Rattle.device.proofs.close.Goals as goal
 
-pub returns-then-is_good_link : goal.returns-then-is_good_link
-returns-then-is_good_link c =
+pub returns-then-not-is_good_link : goal.returns-then-not-is_good_link
+returns-then-not-is_good_link c =
     let l = c.args.link in
-    c.close.ensures ∙ sym (closed-as l ∙ judged-right l (close_step Device l) (sym c.is_good_link.ensures ∙ c.if-is_good_link.true))
+    c.refuse_link.ensures ∙ sym (closed-as l ∙ judged-bad l (close_step Device l) (sym c.is_good_link.ensures ∙ c.if-not-is_good_link.true))
 
 pub returns : goal.returns
 returns c =
     let l = c.args.link in
-    c.refuse_link.ensures ∙ sym (closed-as l ∙ judged-bad l (close_step Device l) (sym c.is_good_link.ensures ∙ c.if-is_good_link.false))
+    c.close.ensures ∙ sym (closed-as l ∙ judged-right l (close_step Device l) (sym c.is_good_link.ensures ∙ c.if-not-is_good_link.false))

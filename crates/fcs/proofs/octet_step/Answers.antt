@@ -8,17 +8,17 @@ use Rattle.fcs.proofs.octet_step.Goals as goal
 step : (n m x : ℕ) → n ≡ suc m → bit_steps n x ≡ bit_steps m (bit_step x)
 step n m x e = ap (λ (k : ℕ). bit_steps k x) e
 
-pub loop-done-init : goal.loop-done-init
+pub loop-init : goal.loop-init
 unfolding octet_step
-loop-done-init c = (omega arith, refl)
+loop-init c = refl
 
-pub loop-done-preserved : goal.loop-done-preserved
-loop-done-preserved c =
-    let l = c.loop-done in
-    (omega arith, rw c.bit_step-x.ensures (sym (step (8 - l.done) (8 - (l.done + 1)) l.x (omega arith)) ∙ l.invariant.1))
+pub loop-preserved : goal.loop-preserved
+loop-preserved c =
+    let l = c.loop in
+    rw c.bit_step-x.ensures (sym (step (8 - l.counter) (8 - (l.counter + 1)) l.x (omega arith)) ∙ l.invariant)
 
 pub returns : goal.returns
 returns c =
-    let l = c.loop-done in
-    let none : 8 - l.done ≡ 0 = omega arith in
-    rw none at l.invariant.1
+    let l = c.loop in
+    let none : 8 - l.counter ≡ 0 = omega arith in
+    rw none at l.invariant

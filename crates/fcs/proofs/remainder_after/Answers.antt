@@ -1,21 +1,15 @@
-use Prim.Native.Nat.{ℕ, ◌≤◌, ◌<◌}
-use lib.ListN.{length, drop_of_length-le}
-use lib.Seq.{drop-cons}
-use mathlib.Core.List.{List}
-use native.Mathlib.Numerals.{add-one}
-use native.Mathlib.Omega.{arith}
+use Prim.Native.Nat.{ℕ}
+use mathlib.Core.List.{List, [], ◌∷◌}
+use mathlib.Core.Path.{◌≡◌, refl}
+use Rattle.std.specs.List.{fold}
+use Rattle.std.proofs.Common.{rules}
+use Rattle.fcs.specs.Fcs.{octet_step, remainder}
 use Rattle.fcs.proofs.remainder_after.Goals as goal
 
-pub loop-i-preserved : goal.loop-i-preserved
-loop-i-preserved c =
-    let d = c in
-    let s : List ℕ = d.args.octets.now in
-    let h : d.loop-i.i < length s = omega arith in
-    (omega arith, rw (add-one, c.octet_step-r.ensures) (rw (drop-cons s d.loop-i.i 0) at d.loop-i.invariant.1))
+-- the definition is the library's fold
+remainder_fold : (r : ℕ) (l : List ℕ) → remainder r l ≡ fold octet_step r l
+remainder_fold r [] = refl
+remainder_fold r (x ∷ l) = remainder_fold (octet_step r x) l
 
 pub returns : goal.returns
-returns c =
-    let d = c in
-    let s : List ℕ = d.args.octets.now in
-    let h : length s ≤ d.loop-i.i = omega arith in
-    rw (drop_of_length-le s) at d.loop-i.invariant.1
+returns c = rw (remainder_fold c.args.start c.args.octets.now) (search rules)

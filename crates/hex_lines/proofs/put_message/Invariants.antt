@@ -1,5 +1,4 @@
 -- The loop's invariant: the output has the first lines at its start, and `at` is their length; `lines-turn` is its step.
-use Prim.Native.Nat.{◌+◌, ◌-◌, ◌≤◌}
 use lib.ListN.{length}
 use mathlib.Core.Path.{◌≡◌}
 use Rattle.hex_lines.specs.Steps.{first_lines}
@@ -8,7 +7,4 @@ use Rattle.hex_lines.proofs.put_message.Given as goal
 
 abbrev pub invariant-loop-index : goal.invariant-loop-index
 invariant-loop-index l =
-    (l.index ≤ l.last + 1) × (length l.output ≡ length l.initial.output) × (l.at ≡ length (first_lines l.number l.message l.index)) × (l.output ≡ write l.initial.output 0 (first_lines l.number l.message l.index))
-
-abbrev pub decreases-loop-index : goal.decreases-loop-index
-decreases-loop-index l = l.last + 1 - l.index
+    (length l.output ≡ length l.initial.output) × (l.at ≡ length (first_lines l.number l.message l.index)) × (l.output ≡ write l.initial.output 0 (first_lines l.number l.message l.index))

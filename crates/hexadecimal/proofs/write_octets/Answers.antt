@@ -15,13 +15,12 @@ octet_of-requires c =
 pub loop-j-preserved : goal.loop-j-preserved
 loop-j-preserved c =
     let l = c.loop-j in (
-      omega arith,
-      simp length-set l.invariant.1,
-      rw (l.invariant.2, c.octet_of.ensures) (octets-turn c.args.output.now c.args.text.now l.j (omega arith) c.requires.1),
+      simp length-set l.invariant.0,
+      rw (l.invariant.1, c.octet_of.ensures) (octets-turn c.args.output.now c.args.text.now l.j (omega arith) c.requires.1),
     )
 
 pub returns : goal.returns
 returns c =
     let l = c.loop-j in
     let a = c.args in
-    l.invariant.2 ∙ written a.output.now 0 (octets_of a.text.now) l.j (omega (arith, length-octets a.text.now))
+    l.invariant.1 ∙ written a.output.now 0 (octets_of a.text.now) l.j (omega (arith, length-octets a.text.now))

@@ -1,5 +1,4 @@
 -- The loop's invariant: the output has the first j octets at its start (`paste`); `octets-turn` is its step.
-use Prim.Native.Nat.{◌≤◌, ◌-◌, ◌/◌}
 use lib.ListN.{length}
 use lib.Seq.{paste}
 use mathlib.Core.Path.{◌≡◌}
@@ -7,7 +6,4 @@ use Rattle.hexadecimal.specs.Hex.{octets_of}
 use Rattle.hexadecimal.proofs.write_octets.Given as goal
 
 abbrev pub invariant-loop-j : goal.invariant-loop-j
-invariant-loop-j l = (l.j ≤ length l.text / 2) × (length l.output ≡ length l.initial.output) × (l.output ≡ paste l.initial.output 0 (octets_of l.text) l.j)
-
-abbrev pub decreases-loop-j : goal.decreases-loop-j
-decreases-loop-j l = length l.text / 2 - l.j
+invariant-loop-j l = (length l.output ≡ length l.initial.output) × (l.output ≡ paste l.initial.output 0 (octets_of l.text) l.j)

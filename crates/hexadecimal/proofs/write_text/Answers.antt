@@ -9,9 +9,8 @@ use Rattle.hexadecimal.proofs.write_text.Goals as goal
 pub loop-j-preserved : goal.loop-j-preserved
 loop-j-preserved c =
     let l = c.loop-j in (
-      omega arith,
-      simp length-set l.invariant.1,
-      rw (l.invariant.2, c.digit.ensures, c.digit-in-loop-j.ensures)
+      simp length-set l.invariant.0,
+      rw (l.invariant.1, c.digit.ensures, c.digit-in-loop-j.ensures)
           (text-turn c.args.output.now c.args.octets.now c.args.at l.j (omega arith) c.requires),
     )
 
@@ -19,4 +18,4 @@ pub returns : goal.returns
 returns c =
     let l = c.loop-j in
     let a = c.args in
-    l.invariant.2 ∙ written a.output.now a.at (text_of a.octets.now) (2 * l.j) (omega (arith, length-text a.octets.now))
+    l.invariant.1 ∙ written a.output.now a.at (text_of a.octets.now) (2 * l.j) (omega (arith, length-text a.octets.now))

@@ -1,4 +1,4 @@
-use Prim.Native.Nat.{◌≤◌, ◌-◌}
+use Prim.Native.Nat.{◌-◌}
 use lib.ListN.{length}
 use mathlib.Core.Path.{◌≡◌}
 use Rattle.import_capabilities.specs.Turns.{SocketsPut}
@@ -6,10 +6,5 @@ use Rattle.import_capabilities.proofs.put_sockets.Given as goal
 
 abbrev pub invariant-loop-socket : goal.invariant-loop-socket
 invariant-loop-socket g l =
-    (1 ≤ l.socket)
-    × (l.socket ≤ 9)
-    × (length l.output ≡ length l.initial.output)
+    (length l.output ≡ length l.initial.output)
     × SocketsPut l.log.tray l.initial.streams l.initial.output (l.socket - 1) l.streams l.output
-
-abbrev pub decreases-loop-socket : goal.decreases-loop-socket
-decreases-loop-socket g l = 9 - l.socket

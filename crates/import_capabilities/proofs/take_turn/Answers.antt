@@ -4,9 +4,6 @@ use mathlib.Core.Path.{refl, sym, ap, ◌∙◌}
 use Rattle.lines.specs.Streams.{is_whole}
 use Rattle.import_capabilities.proofs.take_turn.Goals as goal
 
-pub put_report-requires : goal.put_report-requires
-put_report-requires g c = c.requires
-
 pub shape_of-input-then-is_whole : goal.shape_of-input-then-is_whole
 shape_of-input-then-is_whole g c = c.next_piece-streams.auto.input
 

@@ -6,4 +6,4 @@ pub returns-in_default : goal.returns-in_default
 returns-in_default c = let n = no_text c.args.output.now in rw c.in_default.is (n.0, n.1, omega arith)
 
 pub returns : goal.returns
-returns c = rw c.in-Row.is c.write_row.ensures
+returns c = rw c.in-Some.is c.write_row.ensures

@@ -19,10 +19,10 @@ first (S.Recorded d) h tray place line origin c = absurd (h d refl)
 
 pub returns-in-Recorded : goal.returns-in-Recorded
 returns-in-Recorded c =
-    let e = sym c.stock_at-stock.ensures ∙ c.in-Recorded.is in
+    let e = sym c.stock_at.ensures ∙ c.in-Recorded.is in
     rw (e, c.record_row.ensures, c.further_word-what.ensures)
 
 pub returns : goal.returns
 returns c =
     let a = c.args in
-    rw (c.record_row-2.ensures, c.with_stock.ensures, ← c.stock_at-stock.ensures) (sym (first c.stock_at-stock.result c.in_default.not-Recorded a.tray a.place a.line a.origin a.capabilities))
+    rw (c.record_row-2.ensures, c.with_stock.ensures, ← c.stock_at.ensures) (sym (first c.stock_at.result c.in_default.not-Recorded a.tray a.place a.line a.origin a.capabilities))

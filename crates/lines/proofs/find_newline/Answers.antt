@@ -1,22 +1,14 @@
-use Rattle.std.proofs.Common.{◌≡◌, sym, ◌∙◌, arith, add-one}
-use Rattle.lines.proofs.Laws.{newline-here, newline-on, newline-none}
+use Rattle.std.proofs.Common.{sym, ◌∙◌, arith}
+use Rattle.lines.proofs.Laws.{newline-at, newline-none}
 use Rattle.lines.proofs.find_newline.Goals as goal
 
-pub returns-then-input-at-eq10 : goal.returns-then-input-at-eq10
-returns-then-input-at-eq10 c =
+pub returns-in-Some : goal.returns-in-Some
+returns-in-Some c =
     let a = c.args in
-    let i = c.loop-at.invariant in
-    (sym (newline-here a.input.now a.filled (omega arith) c.loop-at.at (omega arith) c.if-input-at-eq10.true) ∙ i.2, omega arith, omega arith)
+    let p = newline-at a.input.now a.from a.filled (omega arith) (omega arith) c.in-Some.count (sym c.before_newline.ensures ∙ c.in-Some.is) in
+    (sym p.0, omega arith, p.1)
 
-pub loop-at-preserved : goal.loop-at-preserved
-loop-at-preserved c =
+pub returns-in-None : goal.returns-in-None
+returns-in-None c =
     let a = c.args in
-    let i = c.loop-at.invariant in
-    rw (add-one)
-    (omega arith, omega arith, newline-on a.input.now a.filled (omega arith) c.loop-at.at (omega arith) c.if-input-at-eq10.false ∙ i.2)
-
-pub returns : goal.returns
-returns c =
-    let a = c.args in
-    let e : c.loop-at.at ≡ a.filled = omega arith in
-    (sym (newline-none a.input.now a.filled (omega arith)) ∙ (rw e at c.loop-at.invariant.2), omega arith, omega arith)
+    (sym (newline-none a.input.now a.from a.filled (omega arith) (omega arith) (sym c.before_newline.ensures ∙ c.in-None.is)), omega arith, omega arith)

@@ -3,14 +3,14 @@ use Rattle.std.proofs.lemmas.Grind.{common_steps}
 use Rattle.lines.specs.Streams.{waiting_after}
 use Rattle.lines.proofs.waiting_after.Goals as goal
 
-pub returns-then-output-waiting : goal.returns-then-output-waiting
+pub returns-in-Some : goal.returns-in-Some
 unfolding waiting_after
-returns-then-output-waiting c = grind (arith, common_steps)
+returns-in-Some c = grind (arith, common_steps)
 
-pub returns-then-output-waiting-2 : goal.returns-then-output-waiting-2
+pub returns-in-Some-2 : goal.returns-in-Some-2
 unfolding waiting_after
-returns-then-output-waiting-2 c = grind (arith, common_steps)
+returns-in-Some-2 c = grind (arith, common_steps)
 
-pub returns : goal.returns
+pub returns-in-None : goal.returns-in-None
 unfolding waiting_after
-returns c = grind (arith, common_steps)
+returns-in-None c = grind (arith, common_steps)

@@ -1,5 +1,6 @@
 -- The shift by definition; bit 64 and on are not set (`past-marks`).
 use borrow.Author.Rules.{rules}
+use borrow.Author.Tests.{le-ltb}
 use mathlib.Core.Path.{sym}
 use native.Mathlib.Omega.{arith}
 use Rattle.link_fields.proofs.Bits.{past-marks}
@@ -7,7 +8,7 @@ use Rattle.links.specs.Marks.{is_marked}
 use Rattle.link_fields.proofs.is_marked.Goals as goal
 
 pub returns-else-k-lt64 : goal.returns-else-k-lt64
-returns-else-k-lt64 c = sym (past-marks c.args.marks c.args.k (omega arith) (omega arith))
+returns-else-k-lt64 c = rw (le-ltb c.args.k 64 (omega arith)) (sym (past-marks c.args.marks c.args.k (omega arith) (omega arith)))
 
 pub returns-then-k-lt64 : goal.returns-then-k-lt64
 unfolding is_marked

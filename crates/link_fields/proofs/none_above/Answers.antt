@@ -2,14 +2,15 @@
 use Prim.Native.Nat.{suc}
 use native.Mathlib.Numerals.{add-one}
 use native.Mathlib.Omega.{arith}
+use borrow.Author.Tests.{le-leb}
 use Rattle.link_fields.proofs.Bits.{shifted-out}
 use Rattle.links.specs.Marks.{none_above}
 use Rattle.link_fields.proofs.none_above.Goals as goal
 
-pub returns-then-n-lt63 : goal.returns-then-n-lt63
+pub returns-else-n-ge63 : goal.returns-else-n-ge63
 unfolding none_above
-returns-then-n-lt63 c = rw (add-one c.args.n)
+returns-else-n-ge63 c = rw (add-one c.args.n)
 
-pub returns-else-n-lt63 : goal.returns-else-n-lt63
+pub returns-then-n-ge63 : goal.returns-then-n-ge63
 unfolding none_above
-returns-else-n-lt63 c = rw (shifted-out c.args.marks (suc c.args.n) (omega arith) (omega arith))
+returns-then-n-ge63 c = rw (le-leb 63 c.args.n (omega arith), shifted-out c.args.marks (suc c.args.n) (omega arith) (omega arith))

@@ -1,22 +1,31 @@
--- By the kind of the frame; a segment does not come here (`NoSegment`).
-use mathlib.Core.Path.{subst}
-use Rattle.link_steps.specs.Steps.{NoSegment}
+-- By the Link ID (`by-id`), and the link's state for it (`id-state`).
+use mathlib.Core.List.{[]}
+use mathlib.Core.Path.{◌∙◌}
+use Rattle.std.specs.Prelude.{Ok}
+use Rattle.pb_adv.specs.Frame.{id_of}
+use Rattle.links.specs.Station.{frame_step}
+use Rattle.link_steps.specs.Calls.{one_link}
+use Rattle.link_steps.proofs.Laws.{by-id, id-state}
 use Rattle.link_steps.proofs.receive_other.Goals as goal
 
-pub returns-in-Segment : goal.returns-in-Segment
-returns-in-Segment c = absurd (subst NoSegment c.in-Segment.is c.requires)
+pub returns-in-Free : goal.returns-in-Free
+unfolding frame_step
+returns-in-Free c =
+    let a = c.args in
+    let x = one_link a.link [] in
+    let e = by-id a.side x [] a.parsed ∙ id-state a.side x (id_of a.parsed) [] (Ok a.parsed) in
+    simp (e, ← c.id.ensures, ← c.state_for.ensures, c.in-Free.is, c.refuse_link.ensures)
 
-pub returns-in-Acknowledgement : goal.returns-in-Acknowledgement
-returns-in-Acknowledgement c = simp (c.at_id.ensures, c.in-Acknowledgement.is)
+pub returns-in-Opening : goal.returns-in-Opening
+returns-in-Opening c =
+    let a = c.args in
+    let x = one_link a.link [] in
+    let e = by-id a.side x [] a.parsed ∙ id-state a.side x (id_of a.parsed) [] (Ok a.parsed) in
+    simp (e, ← c.id.ensures, ← c.state_for.ensures, c.in-Opening.is, c.step_opening.ensures)
 
 pub returns-in-Open : goal.returns-in-Open
-returns-in-Open c = simp (c.at_id-in-Open.ensures, c.in-Open.is)
-
-pub returns-in-Ack : goal.returns-in-Ack
-returns-in-Ack c = simp (c.at_id-in-Ack.ensures, c.in-Ack.is)
-
-pub returns-in-Close : goal.returns-in-Close
-returns-in-Close c = simp (c.at_id-in-Close.ensures, c.in-Close.is)
-
-pub returns-in-Refused : goal.returns-in-Refused
-returns-in-Refused c = simp (c.in-Refused.is, c.refuse_link-in-Refused.ensures, c.refusal_of.ensures)
+returns-in-Open c =
+    let a = c.args in
+    let x = one_link a.link [] in
+    let e = by-id a.side x [] a.parsed ∙ id-state a.side x (id_of a.parsed) [] (Ok a.parsed) in
+    simp (e, ← c.id.ensures, ← c.state_for.ensures, c.in-Open.is, c.step_open.ensures)

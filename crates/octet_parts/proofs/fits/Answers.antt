@@ -1,13 +1,11 @@
-use Prim.Native.Nat.{ℕ, ◌-◌}
+use Prim.Native.Nat.{◌-◌}
 use borrow.Author.Tests.{leb-true}
-use mathlib.Core.Bool.{true, false}
-use mathlib.Core.Path.{◌≡◌}
 use native.Mathlib.Omega.{arith}
 use Rattle.octets.proofs.Tests.{tests}
 use Rattle.octet_parts.proofs.fits.Goals as goal
 
-pub returns-then-length-at : goal.returns-then-length-at
-returns-then-length-at c = (search tests, λ e. let f : false ≡ true = e in let q : ◌≡◌ {A = ℕ} 0 1 = cc in omega arith)
+pub returns-then-at-length : goal.returns-then-at-length
+returns-then-at-length c = (search tests, λ e. let a = c.args in omega (arith, leb-true a.count (a.length - a.at) e))
 
-pub returns-else-length-at : goal.returns-else-length-at
-returns-else-length-at c = (search tests, λ e. let a = c.args in omega (arith, leb-true a.count (a.length - a.at) e))
+pub returns-else-at-length : goal.returns-else-at-length
+returns-else-at-length c = (search tests, λ e. let a = c.args in omega (arith, leb-true a.at a.length e))

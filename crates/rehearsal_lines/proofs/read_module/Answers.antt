@@ -7,7 +7,7 @@ use Rattle.hexadecimal.specs.Hex.{decoded_of, decoded_output}
 use Rattle.rehearsal_lines.proofs.Channel.{all-behind}
 use Rattle.rehearsal_lines.proofs.Laws.{too_short, too_long, no-space, no-opening, no-message, a-module}
 use Rattle.rehearsal_lines.proofs.read_module.Goals as goal
-use Rattle.rehearsal_lines.proofs.read_module.Goals.{After-decode}
+use Rattle.rehearsal_lines.proofs.read_module.Goals.{After-decode, then-line-lt13-via-then-line-lt13, then-line-lt13-via-else-line-lt13+then-line-gt-LONGEST, then-line-lt13-via-else-line-lt13+else-line-gt-LONGEST+then-line-ne32}
 
 read : (c : After-decode) → let a = c.args in
     (c.decode.result ≡ decoded_of (drop 11 a.line.now) a.room.now)
@@ -20,13 +20,11 @@ read c =
     )
 
 pub returns-then-line-lt13 : goal.returns-then-line-lt13
-returns-then-line-lt13 c = too_short c.args.line.now _ (omega arith)
-
-pub returns-then-line-gt-LONGEST : goal.returns-then-line-gt-LONGEST
-returns-then-line-gt-LONGEST c = too_long c.args.line.now _ (omega arith)
-
-pub returns-then-line-ne32 : goal.returns-then-line-ne32
-returns-then-line-ne32 c = no-space _ _ c.if-line-ne32.true
+returns-then-line-lt13 c = elim c.then-line-lt13.branch [
+  | then-line-lt13-via-then-line-lt13 w ↦ too_short c.args.line.now _ (omega arith)
+  | then-line-lt13-via-else-line-lt13+then-line-gt-LONGEST w ↦ too_long c.args.line.now _ (omega arith)
+  | then-line-lt13-via-else-line-lt13+else-line-gt-LONGEST+then-line-ne32 w ↦ no-space _ _ w.if-line-ne32.true
+]
 
 pub returns-in_default : goal.returns-in_default
 returns-in_default c = no-opening _ _ (sym c.read_opening.ensures ∙ c.in_default.is)
@@ -34,7 +32,7 @@ returns-in_default c = no-opening _ _ (sym c.read_opening.ensures ∙ c.in_defau
 pub returns-in_default-decode : goal.returns-in_default-decode
 returns-in_default-decode c =
     let r = read (goal.at.returns-in_default-decode c).After-decode in
-    let none = no-message _ _ (λ n e. c.in_default-decode.not-Octets n (r.0 ∙ e)) in
+    let none = no-message _ _ (λ n e. c.in_default-decode.not-Ok n (r.0 ∙ e)) in
     (none.0, r.1 ∙ none.1)
 
 pub returns : goal.returns
@@ -43,6 +41,6 @@ returns c =
     let r = read (goal.at.returns c).After-decode in
     let all =
     a-module l _ (omega arith) (omega arith) (omega arith)
-    (sym c.read_opening.ensures ∙ c.in-Opens.is)
-    (sym r.0 ∙ c.in-Octets.is) in
+    (sym c.read_opening.ensures ∙ c.in-Some.is)
+    (sym r.0 ∙ c.in-Ok.is) in
     (all.0, r.1 ∙ all.1)

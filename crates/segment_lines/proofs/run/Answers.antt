@@ -1,33 +1,30 @@
-use borrow.Author.Rules.{rules}
-use mathlib.Core.Path.{◌≡◌, refl}
+use mathlib.Core.Path.{refl}
 use native.Mathlib.Omega.{arith}
-use Rattle.lines.proofs.Runs.{runs_on, runs-out}
-use Rattle.segment_lines.specs.Runs.{program}
+use Rattle.lines.specs.Runs.{RunsTo}
+use Rattle.lines.proofs.Runs.{turn-next, turn-last, turns-over}
+use Rattle.segment_lines.specs.Runs.{state_of, program, first}
 use Rattle.segment_lines.proofs.Laws.{turn-few}
 use Rattle.segment_lines.proofs.Runs.{runs-start}
 use Rattle.segment_lines.proofs.run.Goals as goal
+use Rattle.segment_lines.proofs.run.Goals.{else-loop-test, then-loop-test+then-not-progress}
 
-pub loop-turns-init : goal.loop-turns-init
-loop-turns-init g c = (refl, refl, refl, omega arith, runs-start c.start.result c.start.ensures)
+pub loop-init : goal.loop-init
+loop-init g c = (refl, refl, omega arith, runs-start c.start.result c.start.ensures)
 
-pub loop-turns-preserved-then-streams : goal.loop-turns-preserved-then-streams
-loop-turns-preserved-then-streams g c =
+pub loop-preserved : goal.loop-preserved
+loop-preserved g c =
     let t = c.take_turn-progress.ensures in
-    (search rules, search rules, search rules, turn-few t, runs_on program _ c.loop-turns.invariant.4 (omega arith) _ t c.if-streams.true)
-
-pub loop-turns-preserved : goal.loop-turns-preserved
-loop-turns-preserved g c =
-    let t = c.take_turn-progress.ensures in
-    (search rules, search rules, search rules, turn-few t, runs-out program _ c.loop-turns.invariant.4 (omega arith) _ t c.if-streams.false)
+    (omega arith, omega arith, turn-few t, turn-next program _ c.loop.invariant.3 c.loop-test.true _ t c.if-not-progress.false)
 
 pub returns : goal.returns
 returns g c =
-    let d = c in
-    let none : d.loop-turns.turns ≡ 0 = omega arith in
-    record {
-      after_turns = d.loop-turns.progress;
-      run = rw none at d.loop-turns.invariant.4;
-      flushed = c.flush.ensures.0;
-      held = refl;
-      number = refl;
-    }
+    let a = c.args in
+    let l = c.loop-test in
+    let run : RunsTo program (first a.input.now a.line.now a.output.now) (state_of l.progress l.input l.line l.output) 0 =
+    elim l.branch [
+      | else-loop-test w ↦ rw (w.progress-is, w.input-is, w.line-is, w.output-is)
+          (turns-over program _ c.loop.invariant.3 (omega arith))
+      | then-loop-test+then-not-progress w ↦ rw (w.progress-is, w.input-is, w.line-is, w.output-is)
+          (turn-last program _ c.loop.invariant.3 w.loop-test.true _ w.take_turn-progress.ensures w.if-not-progress.true)
+    ] in
+    record { after_turns = l.progress; run = run; flushed = c.flush.ensures.0; held = refl; number = refl }

@@ -1,31 +1,29 @@
--- A copy that fits is a write (`copied-part`), and what is entered is that write and `completed` (`entered-is`, `entered-part`).
+-- A copy that fits is a write (`copied-whole`), and what is entered is that write and `completed` (`entered-is`, `entered-part`).
 use Prim.Native.Nat.{◌+◌, ◌≤◌}
 use lib.ListN.{length}
 use mathlib.Core.Path.{ap, sym}
 use native.Mathlib.Omega.{arith}
 use Rattle.links.specs.declared.HalfMessage.{HalfMessage}
-use Rattle.octets.proofs.Parts.{copied-part}
-use Rattle.octets.specs.Parts.{part}
 use Rattle.transactions.proofs.Laws.{seg_n-small}
 use Rattle.transactions.specs.Segments.{segment_place}
-use Rattle.link_steps.proofs.Laws.{entered-is, entered-part, segment-in}
+use Rattle.link_steps.proofs.Laws.{copied-whole, entered-is, entered-part, segment-in}
 use Rattle.link_steps.specs.Calls.{one_link, stepped_of}
 use Rattle.link_steps.proofs.segments.enter.Goals as goal
 
-pub mark-more-requires : goal.mark-more-requires
-mark-more-requires c = omega (arith, seg_n-small c.args.message.length c.requires.few_octets)
+pub mark-requires : goal.mark-requires
+mark-requires c = omega (arith, seg_n-small c.args.message.length c.requires.few_octets)
 
 pub complete-requires : goal.complete-requires
-complete-requires c = omega (arith, ap (λ (m : HalfMessage). m.length) c.mark-more.ensures)
+complete-requires c = omega (arith, ap (λ (m : HalfMessage). m.length) c.mark.ensures)
 
 pub returns : goal.returns
 returns c =
     let a = c.args in
     let q = c.requires in
-    let h : segment_place a.index + a.count ≤ length a.part.now = omega (arith, segment-in a.message.length a.index a.count q.some_octets q.few_octets q.inside q.fits) in
-    let w = copied-part a.part.now (segment_place a.index) a.frame.now a.from a.count h q.in_frame in
-    let x = one_link a.link a.part.now in
-    let d = part a.frame.now a.from a.count in (
-      simp (c.complete.ensures, c.mark-more.ensures, c.copy.ensures.1, c.segment_place.ensures, w) (sym (ap stepped_of (entered-is x a.message a.index d))),
-      simp (c.copy.ensures.1, c.segment_place.ensures, w) (sym (entered-part x a.message a.index d)),
+    let d = a.octets.now in
+    let h : segment_place a.index + length d ≤ length a.part.now = omega (arith, segment-in a.message.length a.index (length d) q.some_octets q.few_octets q.inside q.fits) in
+    let w = copied-whole a.part.now d (segment_place a.index) h in
+    let x = one_link a.link a.part.now in (
+      simp (c.complete.ensures, c.mark.ensures, c.copy.ensures.1, c.segment_place-place.ensures, w) (sym (ap stepped_of (entered-is x a.message a.index d))),
+      simp (c.copy.ensures.1, c.segment_place-place.ensures, w) (sym (entered-part x a.message a.index d)),
     )

@@ -21,7 +21,6 @@ no-rule (M.Random x) p q r = refl
 no-rule (M.Data x y) p q r = refl
 no-rule M.Complete p q r = refl
 no-rule (M.Failed a) p q r = absurd (r a refl)
-no-rule (M.Refused a) p q r = refl
 
 pub returns-in-Capabilities : goal.returns-in-Capabilities
 returns-in-Capabilities c = simp (c.in-Capabilities.is, c.prohibited_capabilities.ensures)

@@ -1,27 +1,35 @@
--- One turn of the loop takes the address at a place: `first-turn`, `next-turn`, `last_turn`.
+-- One turn of the loop takes two octets: `first-turn`, `next-turn`, `last_turn`.
 use borrow.Author.Rules.{rules}
 use lib.ListN.{length}
-use mathlib.Core.Path.{◌≡◌}
-use Rattle.proxy_filter.proofs.Places.{length-mapped}
+use mathlib.Core.Path.{◌≡◌, refl, ◌∙◌}
+use native.Mathlib.Omega.{arith}
 use Rattle.proxy_filter.proofs.Turns.{first-turn, next-turn, last_turn}
 use Rattle.proxy_filter.proofs.Filter.change_all.Goals as goal
 
-pub loop-at-init : goal.loop-at-init
-loop-at-init c =
+pub loop-address-init : goal.loop-address-init
+loop-address-init c =
     let a = c.args in
-    let n : length a.self.entries ≡ 16 = search (rules, length-mapped) in
-    first-turn a.self a.change _ c.requires n
+    let n : length a.self.entries ≡ 16 = search rules in
+    let whole : c.chunks_exact-address-items.result.rest.now ≡ a.octets.now = c.chunks_exact-address-items.ensures.rest in
+    let two : c.chunks_exact-address-items.result.size ≡ 2 = c.chunks_exact-address-items.ensures.size in
+    rw (c.into_iter-address-iterator.ensures.into_iter_gives, whole, two) (refl, first-turn a.self a.change _ c.requires n)
 
 pub change_one-self-requires : goal.change_one-self-requires
-change_one-self-requires c = c.loop-at.invariant.good
+change_one-self-requires c = c.loop-address.invariant.1.good
 
-pub loop-at-preserved : goal.loop-at-preserved
-loop-at-preserved c =
-    let l = c.loop-at in
+pub loop-address-preserved : goal.loop-address-preserved
+loop-address-preserved c =
+    let l = c.loop-address in
     let a = c.args in
-    rw (c.change_one-self.ensures, c.read16-address.ensures) (next-turn a.self a.change _ l.self l.at l.invariant c.loop-at-test.true)
+    let p = c.in-Some.ensures.steps in (
+      p.0 ∙ l.invariant.0,
+      rw (c.change_one-self.ensures, c.read16.ensures)
+          (next-turn a.self a.change _ l.self c.in-Some.address.now c.next.new.self.rest.now (p.1.1 ∙ l.invariant.0) (rw (← p.1.0) l.invariant.1)),
+    )
 
 pub returns : goal.returns
 returns c =
+    let l = c.loop-address in
     let a = c.args in
-    last_turn a.self a.change _ c.loop-at.self c.loop-at.at c.loop-at.invariant c.loop-at-test.false
+    let p = c.in-None.ensures.steps in
+    last_turn a.self a.change _ l.self l.address-iterator.rest.now l.invariant.1 (omega (arith, p.1.0, l.invariant.0))

@@ -1,10 +1,6 @@
-use Prim.Native.Nat.{◌+◌, ◌-◌}
-use lib.ListN.{length}
+use mathlib.Core.Path.{◌≡◌}
 use Rattle.proxy_filter.proofs.Turns.{Turn}
 use Rattle.proxy_filter.proofs.Filter.change_all.Given as goal
 
-abbrev pub invariant-loop-at : goal.invariant-loop-at
-invariant-loop-at l = Turn l.initial.self l.change l.message l.self l.at
-
-abbrev pub decreases-loop-at : goal.decreases-loop-at
-decreases-loop-at l = length l.message + 1 - l.at
+abbrev pub invariant-loop-address : goal.invariant-loop-address
+invariant-loop-address l = (l.address-iterator.size ≡ 2) × Turn l.initial.self l.change l.octets l.self l.address-iterator.rest.now

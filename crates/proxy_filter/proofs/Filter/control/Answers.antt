@@ -1,45 +1,58 @@
-use mathlib.Core.Path.{sym, ◌∙◌}
+use lib.ListN.{length, take, drop, length-drop}
+use lib.Seq.{take_all}
+use native.Mathlib.Omega.{arith}
+use Prim.Native.Nat.{◌-◌}
+use mathlib.Core.Path.{◌≡◌, sym, ◌∙◌}
 use Rattle.proxy_filter.specs.Calls.{controlled}
+use Rattle.proxy_filter.proofs.Turns.{some_octet}
 use Rattle.proxy_filter.proofs.Filter.control.Goals as goal
 
-pub returns-in-SetType : goal.returns-in-SetType
+pub returns-then-not-is_good : goal.returns-then-not-is_good
 unfolding controlled
-returns-in-SetType c =
+returns-then-not-is_good c = simp (← c.is_good.ensures, c.if-not-is_good.true) c.refuse.ensures
+
+pub slice_bounds-change_all-count : goal.slice_bounds-change_all-count
+slice_bounds-change_all-count c = some_octet c.args.message.now (sym c.request_of.ensures ∙ c.in-Ok-Change.is)
+
+pub slice_bounds-change_all-start : goal.slice_bounds-change_all-start
+slice_bounds-change_all-start c = some_octet c.args.message.now (sym c.request_of.ensures ∙ c.in-Ok-Change.is)
+
+pub returns-in-Ok-SetType : goal.returns-in-Ok-SetType
+unfolding controlled
+returns-in-Ok-SetType c =
     simp (
       ← c.is_good.ensures,
-      c.if-is_good.true,
-      ← c.request_of-request.ensures,
-      c.in-SetType.is,
+      c.if-not-is_good.false,
+      ← c.request_of.ensures,
+      c.in-Ok-SetType.is,
+      c.in-Ok-SetType.field-0-is,
       c.report.ensures,
-      c.empty-self.ensures,
+      c.empty.ensures,
     )
 
-pub change_all-self-requires : goal.change_all-self-requires
-change_all-self-requires c = sym c.is_good.ensures ∙ c.if-is_good.true
-
-pub returns-in-Change : goal.returns-in-Change
+pub returns-in-Ok-Change : goal.returns-in-Ok-Change
 unfolding controlled
-returns-in-Change c =
+returns-in-Ok-Change c =
+    let m = c.args.message.now in
+    let rest : take (length m - 1) (drop 1 m) ≡ drop 1 m = take_all (length m - 1) (drop 1 m) (omega (arith, length-drop 1 m)) in
     simp (
       ← c.is_good.ensures,
-      c.if-is_good.true,
-      ← c.request_of-request.ensures,
-      c.in-Change.is,
-      c.report-in-Change.ensures,
-      c.change_all-self.ensures,
+      c.if-not-is_good.false,
+      ← c.request_of.ensures,
+      c.in-Ok-Change.is,
+      c.in-Ok-Change.field-0-is,
+      c.report-in-Ok-Change.ensures,
+      c.change_all.ensures,
+      rest,
     )
 
-pub returns-in-Refused : goal.returns-in-Refused
+pub returns-in-Err : goal.returns-in-Err
 unfolding controlled
-returns-in-Refused c =
+returns-in-Err c =
     simp (
       ← c.is_good.ensures,
-      c.if-is_good.true,
-      ← c.request_of-request.ensures,
-      c.in-Refused.is,
-      c.refuse.ensures,
+      c.if-not-is_good.false,
+      ← c.request_of.ensures,
+      c.in-Err.is,
+      c.refuse-in-Err.ensures,
     )
-
-pub returns : goal.returns
-unfolding controlled
-returns c = simp (← c.is_good.ensures, c.if-is_good.false, c.refuse-2.ensures)

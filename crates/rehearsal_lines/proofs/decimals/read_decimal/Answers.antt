@@ -1,3 +1,4 @@
+use borrow.Author.Tests.{eqb-true}
 use native.Mathlib.Omega.{arith}
 use mathlib.Core.Bool.{true}
 use mathlib.Core.Path.{◌≡◌, sym, ◌∙◌}
@@ -7,17 +8,19 @@ use Rattle.rehearsal_lines.proofs.Numbers.{digit-so, no-digits, wrong-digit, nex
 use Rattle.rehearsal_lines.proofs.decimals.read_decimal.Goals as goal
 use Rattle.rehearsal_lines.proofs.decimals.read_decimal.Goals.{Else-not-is_digit}
 
-digit : (c : Else-not-is_digit) → is_digit (get_or c.args.text.now c.loop-i.i 0) ≡ true
+digit : (c : Else-not-is_digit) → is_digit (get_or c.args.text.now c.loop-character.character-index 0) ≡ true
 digit c = sym c.is_digit.ensures ∙ c.if-not-is_digit.false
 
-pub returns-then-text-eq0 : goal.returns-then-text-eq0
-returns-then-text-eq0 c = no-digits c.args.text.now _ (omega arith)
+pub returns-then-is_empty : goal.returns-then-is_empty
+returns-then-is_empty c =
+    let none = eqb-true _ _ (sym c.is_empty.ensures ∙ c.if-is_empty.true) in
+    no-digits c.args.text.now _ (omega arith)
 
 pub returns-then-not-is_digit : goal.returns-then-not-is_digit
 returns-then-not-is_digit c =
     let t = c.args.text.now in
-    let l = c.loop-i in
-    wrong-digit t l.value l.i l.invariant.3 (omega arith) _ (sym c.is_digit.ensures ∙ c.if-not-is_digit.true)
+    let l = c.loop-character in
+    wrong-digit t l.value l.character-index l.invariant.2 (omega arith) _ (sym c.is_digit.ensures ∙ c.if-not-is_digit.true)
 
 pub overflow_sub-next : goal.overflow_sub-next
 overflow_sub-next c = omega (arith, digit-so _ (digit (goal.at.overflow_sub-next c).Else-not-is_digit))
@@ -25,11 +28,11 @@ overflow_sub-next c = omega (arith, digit-so _ (digit (goal.at.overflow_sub-next
 pub returns-then-most-next : goal.returns-then-most-next
 returns-then-most-next c =
     let a = c.args in
-    let l = c.loop-i in
-    next-too-much a.text.now l.value l.i l.invariant.3 (omega arith) a.most (omega arith)
+    let l = c.loop-character in
+    next-too-much a.text.now l.value l.character-index l.invariant.2 (omega arith) a.most (omega arith)
 
 pub returns : goal.returns
 returns c =
     let a = c.args in
-    let l = c.loop-i in
-    all_read a.text.now l.value l.i l.invariant.3 a.most (omega arith) (omega arith) (omega arith)
+    let l = c.loop-character in
+    all_read a.text.now l.value l.character-index l.invariant.2 a.most (omega arith) (omega arith) (omega arith)

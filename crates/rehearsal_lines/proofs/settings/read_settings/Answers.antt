@@ -20,4 +20,4 @@ pub returns : goal.returns
 returns c =
     c.read_rates.ensures
     ∙ ap (rates_of _) (cut-behind c.args.settings.now _ c.field_length-end.ensures.0)
-    ∙ seed-right _ (sym (first (goal.at.returns c).After-read_decimal) ∙ c.in-Number.is)
+    ∙ seed-right _ (sym (first (goal.at.returns c).After-read_decimal) ∙ c.in-Some.is)

@@ -1,7 +1,0 @@
-use Rattle.import_frames.proofs.heard.next_of.Goals as goal
-
-pub returns-in_default : goal.returns-in_default
-returns-in_default c = rw c.in_default.is
-
-pub returns : goal.returns
-returns c = rw (c.in-At.is, c.link_at-link.ensures)
