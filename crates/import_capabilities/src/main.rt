@@ -57,7 +57,7 @@ fn write_report(report: Option<Row>, output: &mut [u8]) -> Written
 
 // The row of a report waits.
 // The handle, the streams and the output stay parameters here and below: a struct of them would lend the output, and each contract would speak of it through
-// the loan.
+// the loan. Here alone the output is a slice with a clause on its length: over the array the proof, which takes what stands behind the text, did not close.
 fn put_report<P: Print + Eprint>(
     rt: &P,
     before: Streams,
