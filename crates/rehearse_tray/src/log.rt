@@ -19,7 +19,11 @@ impl Log {
     }
 
     // Puts a line behind the text that waits, so that it waits too.
-    pub fn put<P: Print + Eprint, F: FnOnce(&mut [u8]) -> Written>(&mut self, rt: &P, write: F)
+    pub(super) fn put<P: Print + Eprint, F: FnOnce(&mut [u8]) -> Written>(
+        &mut self,
+        rt: &P,
+        write: F,
+    )
         requires { F.IsAlwaysCallable write }
     {
         let streams = lines::make_room(rt, self.streams, &self.output, log_lines::MOST);

@@ -7,7 +7,7 @@ mod log;
 mod tray;
 mod turns;
 
-ghost use Rattle.std.specs.Prelude.{◌≤◌};
+ghost use Rattle.std.specs.Prelude.{◌≤◌, length};
 
 use given::{Given, Module};
 use links::{LinkState, Side};
@@ -129,16 +129,14 @@ impl Reading {
     }
 
     // Takes the line that is held.
-    fn take_held<P: Print + Eprint>(&mut self, rt: &P) {
+    fn take_held<P: Print + Eprint>(&mut self, rt: &P)
+        requires { self.old.held ≤ length self.old.line }
+    {
         let count = line_length(self.log.streams.ends, &self.line, self.held);
         self.lines = self.lines.saturating_add(1);
         self.held = 0;
-        // Never: no more is held than the buffer has.
-        let Some(line) = self.line.get(..count) else {
-            return;
-        };
         let mut message = [0u8; LONGEST_MESSAGE];
-        let said = read_line(line, &mut message);
+        let said = read_line(&self.line[..count], &mut message);
         self.take_said(rt, said, &message);
     }
 
@@ -168,7 +166,9 @@ impl Reading {
 }
 
 // Whose turn it is: the station and the device of socket 1, those of socket 2, and so on; or, in a mixture, as the channel has drawn.
-fn next_turn(mixed: bool, drawn: u32, turn: u32) -> (Side, Socket) {
+fn next_turn(mixed: bool, drawn: u32, turn: u32) -> (Side, Socket)
+    ensures { (1 ≤ result.1.0) × (result.1.0 ≤ 8) }
+{
     let number = if mixed { drawn } else { turn };
     let side = if number % 2 == 0 {
         Side::Provisioner
@@ -228,32 +228,22 @@ impl Tray {
 }
 
 // From the openings to the last Close. Where a line gave a channel, the turns of the ends are mixed.
-fn rehearse<P: Print + Eprint>(rt: &P, given: Given, messages: [u8; AREA_LENGTH], log: Log) -> Log {
-    let mut tray = Tray::new(given, messages, log);
+fn rehearse<P: Print + Eprint>(rt: &P, tray: &mut Tray, mixed: bool) {
     tray.open_all(rt);
-    tray.take_turns(rt, given.channel.is_some());
+    tray.take_turns(rt, mixed);
     tray.give_up_rest(rt);
-    tray.log
 }
 
 fn run<P: Print + Eprint, R: Read>(rt: &P, reader: &mut R) {
     let mut reading = Reading::new();
     reading.read_lines(rt, reader);
-    let Reading {
-        given,
-        messages,
-        log,
-        lines: _,
-        line: _,
-        held: _,
-    } = reading;
+    let mixed = reading.given.channel.is_some();
+    let mut tray = Tray::new(reading.given, reading.messages, reading.log);
     // Where the input could not be read to its end, nothing is rehearsed.
-    let log = if log.streams.over {
-        rehearse(rt, given, messages, log)
-    } else {
-        log
-    };
-    lines::flush(rt, log.streams, &log.output);
+    if tray.log.streams.over {
+        rehearse(rt, &mut tray, mixed);
+    }
+    lines::flush(rt, tray.log.streams, &tray.log.output);
 }
 
 fn main(rt: HostRuntime) {
