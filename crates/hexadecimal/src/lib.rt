@@ -18,6 +18,7 @@ pub enum DecodeError {
 }
 
 // The value of a digit, of either case; 16 for any other character, and no Option: the promise Digits tells of 16.
+#[tactic(auto, using(octets::proofs::Tests::tests), unfolding(crate::specs::Hex::value_of))]
 pub fn value(character: u8) -> u8
     ensures { result ≡ value_of character }
 {

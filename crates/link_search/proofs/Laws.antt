@@ -2,7 +2,7 @@
 use Prim.Native.Nat.{ℕ, suc}
 use native.Mathlib.Numerals.{add-one}
 use mathlib.Core.List.{List, [], ◌∷◌}
-use mathlib.Core.Path.{◌≡◌, refl, ◌∙◌}
+use mathlib.Core.Path.{◌≡◌, refl, sym, ◌∙◌}
 use Rattle.std.specs.Prelude.{position}
 use Rattle.std.specs.List.{position_from}
 use Rattle.std.proofs.lemmas.Iterator.Adapters.{position_from-zero}
@@ -14,5 +14,5 @@ unfolding find_from
 from-place k [] id = refl
 from-place k (l ∷ ls) id = rw (add-one k, from-place (suc k) ls id)
 
-pub found : (ls : List Link) (id : ℕ) → position (λ l. has_id l id) ls ≡ find ls id
-found ls id = position_from-zero (λ l. has_id l id) ls ∙ from-place 0 ls id
+pub found : (ls : List Link) (id : ℕ) → find ls id ≡ position (λ l. has_id l id) ls
+found ls id = sym (position_from-zero (λ l. has_id l id) ls ∙ from-place 0 ls id)

@@ -22,6 +22,7 @@ fn first_with_id(links: &[Link], id: u32) -> Option<usize>
 }
 
 // The place of the record in use that has a Link ID.
+#[tactic(auto, using(crate::proofs::Laws::found))]
 pub fn find_link(links: [Link; 8], id: u32) -> Option<usize>
     ensures { result ≡ find links id }
 {

@@ -34,7 +34,7 @@ pub fn copy(to: &mut [u8], at: usize, source: &[u8], from: usize, count: usize) 
 }
 
 // Whether count octets from a place on are those of another list from a place on; not where they are past an end.
-#[tactic(auto, using(octets::proofs::Tests::tests), unfolding(octets::specs::Parts::same_part))]
+#[tactic(auto, using(octets::proofs::Tests::tests, crate::proofs::Laws::same_by_first), unfolding(octets::specs::Parts::same_part))]
 pub fn same_part(a: &[u8], at: usize, b: &[u8], from: usize, count: usize) -> bool
     ensures { result ≡ same_part a.now at b.now from count }
 {
