@@ -122,7 +122,7 @@ pub fn settle(mut line: HeldLine) -> HeldLine
 }
 
 // Not 0 where the line so far has characters.
-// Stays a number: docs/PROMISES.md promises it as one, and it goes to `lines::is_whole`, which takes a number of characters.
+// Stays a number: it goes to `lines::is_whole`, which takes a number of characters.
 pub fn begun(line: HeldLine) -> usize
     ensures { result ≡ begun line }
 {

@@ -30,7 +30,7 @@ pub fn value(character: u8) -> u8
     }
 }
 
-// By std's test of a digit: over the tests of `value` a line took a third longer.
+// By std's test of a digit, and not by the value: over the tests of `value` a line took up to half as long again.
 #[tactic(auto, using(octets::proofs::Tests::tests), unfolding(crate::specs::Hex::value_of))]
 fn is_digit(character: u8) -> bool
     ensures { result ≡ leb (value_of character) 15 }

@@ -1,4 +1,5 @@
--- Two parts, compared by their first octets and by what follows those.
+-- Two parts, compared by their first octets and by what follows those: with this a comparison that is cut so is proved where it is right, and the wrong
+-- program `same_part_first`, which is cut so too, is refused for what it compares.
 use Prim.Native.Nat.{ℕ, zero, suc, ◌+◌, ◌-◌, ◌≤◌}
 use native.Mathlib.Numerals.{add-one}
 use native.Mathlib.Omega.{arith}
