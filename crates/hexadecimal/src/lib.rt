@@ -30,7 +30,7 @@ pub fn value(character: u8) -> u8
     }
 }
 
-// By std's test of a digit, and not by the value: over the tests of `value` a line took up to half as long again.
+// By std's test, and not by `value(character) <= 15`: of that the compiler makes a tree of comparisons, and a line takes up to 1.6 times as long.
 #[tactic(auto, using(octets::proofs::Tests::tests), unfolding(crate::specs::Hex::value_of))]
 fn is_digit(character: u8) -> bool
     ensures { result ≡ leb (value_of character) 15 }

@@ -29,7 +29,8 @@ pub struct FilterStep {
 }
 
 // The entries with the one at a place taken out, those after it moved down by one, and the last place not in use.
-// A call of its own: with the copy in it `change_one` was no longer taken into the loop over a message's addresses, which took up to twice the time.
+// Never inlined: with this copy in it, the compiler does not take `change_one` into the loop over a message's addresses, and a message of 16 takes up to 2.1
+// times as long.
 #[inline(never)]
 fn close_place(mut entries: [u16; 16], at: usize) -> [u16; 16]
     requires { at < 16 }
